@@ -5,6 +5,7 @@ mod BaseRead
 mod Beginning
 mod Copying
 mod Formatted
+mod HeaderLeft
 mod MapStored
 mod Mapping
 mod Opened

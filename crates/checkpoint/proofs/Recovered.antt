@@ -1,10 +1,11 @@
 -- A keeper while an opening recovers it.
 use Rattle.std.proofs.Common.{◌≡◌, ◌≢◌, ℕ, ◌+◌, ◌-◌, ◌≤◌, Result, Ok, Err, IfErr, OnOk, List, [], ◌∷◌, ◌++◌, refl, sym, ◌∙◌, ap, subst, arith, false}
-use Rattle.disk_model.specs.Disk.{State}
+use Rattle.disk_model.specs.Disk.{State, LeavesOnly}
 use Rattle.device_image.specs.Keeper.{KeeperState, Memory, Phase, Copying, Mapped, One}
 use Rattle.device_image.specs.Keeps.{Keeps}
 use Rattle.image_model.specs.Image.{Image, apply_all}
 use Rattle.image_model.specs.declared.geometry.Geometry.{Geometry}
+use Rattle.checkpoint.specs.Headers.{HasHeader, HasHeaderOrNext}
 use Rattle.checkpoint.specs.Keeper.{refused_by}
 use Rattle.checkpoint.specs.inner.Recovery.{IsRecoveryFault, IsBegun}
 use Rattle.checkpoint.specs.Steps.{IsStepFault, behind_first, copied_by, fewer, finished_by, first_turned, left_in, mapped_by, phase_left}
@@ -56,6 +57,10 @@ module _ {D : Type 0} where
       ap (λ (phase : Phase). let with_phase : KeeperState D = record keeper { phase = phase } in with_phase) is
       ∙ ap (λ (lefts : List ℕ). copied_to keeper keeper.disk (left_in keeper.phase) lefts keeper.memory) (fewer_none keeper.lefts ∙ ap (λ (n : ℕ). fewer n keeper.lefts) none)
 
+  -- the header stays while blocks are copied
+  pub header_of : (old mid : KeeperState D) (disk : D) (left : ℕ) (lefts : List ℕ) (memory : Memory) → mid ≡ copied_to old disk left lefts memory → (content : List ℕ) → HasHeader mid.geometry mid.generation content → HasHeader old.geometry old.generation content
+  header_of old mid disk left lefts memory is content has = subst (λ (k : KeeperState D). HasHeader k.geometry k.generation content) is has
+
   pub left_next : (mid new : KeeperState D) (blocks : ℕ) → new ≡ copied_by mid blocks new.disk new.memory → left_in new.phase ≡ left_in mid.phase - blocks
   left_next mid new blocks is = ap (λ (k : KeeperState D). left_in k.phase) is
 
@@ -80,6 +85,10 @@ module _ {D : Type 0} where
 
   pub never_one : (keeper : KeeperState D) → keeper.phase ≡ Mapped → keeper.phase ≡ One → ⊥
   never_one keeper is one = cc
+
+  -- the next header, of a keeper for which so many have come into force
+  pub step_next : (old mid : KeeperState D) (headers : ℕ) (before after : State) → mid.geometry ≡ old.geometry → mid.generation ≡ old.generation + headers → LeavesOnly before after (HasHeaderOrNext mid.geometry mid.generation) → LeavesOnly before after (HasHeaderOrNext old.geometry (old.generation + headers))
+  step_next old mid headers before after sizes number call = subst (λ (n : ℕ). LeavesOnly before after (HasHeaderOrNext old.geometry n)) number (subst (λ (size : Geometry). LeavesOnly before after (HasHeaderOrNext size mid.generation)) sizes call)
 
   -- a checkpoint that is carried to its end, in three steps
   pub finished_last : (old copied mapped new : KeeperState D) (blocks : ℕ) → copied ≡ copied_by old blocks copied.disk copied.memory → mapped ≡ mapped_by copied mapped.disk mapped.memory

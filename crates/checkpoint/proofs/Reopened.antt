@@ -1,9 +1,9 @@
 -- What an opening finds, and what it leaves.
-use Rattle.std.proofs.Common.{◌≡◌, inl, inr, ⊎_elim, ℕ, zero, suc, ◌+◌, ◌<◌, ◌^◌, Option, Some, None, Result, Ok, List, [], ◌∷◌, ◌++◌, length, refl, sym, ◌∙◌, ap, subst, arith}
+use Rattle.std.proofs.Common.{◌≡◌, inl, inr, ⊎_elim, ℕ, zero, suc, ◌+◌, ◌≤◌, ◌<◌, ◌^◌, Option, Some, None, Result, Ok, List, [], ◌∷◌, ◌++◌, length, refl, sym, ◌∙◌, ap, subst, arith}
 use Rattle.std.proofs.lemmas.List.Sums.{sum_by-cons}
 use Rattle.disk_model.specs.Disk.{State, IsAllSynced, LeavesOnly, MayLeave}
 use Rattle.disk_model.specs.laws.Contents.{leaves_seen}
-use Rattle.disk_model.specs.laws.Moments.{goes_on}
+use Rattle.disk_model.specs.laws.Moments.{goes_on, weakens}
 use Rattle.header_slots.specs.declared.header.Header.{Header}
 use Rattle.image_model.specs.Image.{Image}
 use Rattle.image_model.specs.declared.command.Kind.{Kind}
@@ -19,8 +19,11 @@ use Rattle.device_image.specs.Stands.{StandsFor, all_changes, area_of, areas_in_
 use Rattle.device_image.specs.laws.CheckpointBounds.{fronts_many}
 use Rattle.device_image.specs.laws.Frame.{moved_list}
 use Rattle.device_image.specs.laws.Sole.{same_header}
-use Rattle.checkpoint.specs.Opening.{HasLastGeneration, IsAtRest, IsFixedOrNot, IsOpeningRefused, IsRefused, LacksGenerations, StandsAs, disk_after, headers_for, headers_for_last, headers_from}
+use Rattle.checkpoint.specs.Headers.{HasHeader, HeadersFollow, HeadersFollowUpTo}
+use Rattle.checkpoint.specs.Opening.{AreHeadersInTurn, HasLastGeneration, IsAtRest, IsFixed, IsFixedOrNot, IsOpeningRefused, IsRefused, LacksGenerations, StandsAs, disk_after, headers_for, headers_for_last, headers_from}
+use Rattle.checkpoint.specs.inner.Opening.{IsReadFixed, IsReadFixedOrNot}
 use Rattle.checkpoint.specs.inner.Recovery.{IsRecoveryFault, headers_at}
+use Rattle.checkpoint.proofs.HeaderLeft.{follows_after}
 use Rattle.checkpoint.specs.declared.fault.KeeperFault.{KeeperFault}
 use Rattle.checkpoint.specs.declared.fault.KeeperFault.TheVariants.{NoMemory, DeviceFault, BadMap, NoHeader, BadHeader, NumbersFull, AreaFull, OutOfOrder, DamagedGroup, NotNow, Failed, AreaSmall}
 
@@ -74,15 +77,18 @@ headers_all [] groups = omega arith
 headers_all (first ∷ front) groups = let rest = headers_after first front groups in omega (arith, rest)
 
 module _ {D : Type 0} (keeper : KeeperState D) (state : State) (image : Image) (number : ℕ) (keeps : Keeps keeper state image number) where
-  -- the generation after all headers that it takes to empty the journal
-  pub headers_left : keeper.turned ≡ turned_of keeper.memory.plans → keeper.generation + length keeper.turned + headers_at keeper.used ≡ keeps.stands.header.generation + headers_for keeps.stands.lists
-  headers_left turned =
+  -- all headers that it takes to empty the journal, and the generation after them
+  pub headers_most : keeper.turned ≡ turned_of keeper.memory.plans → length keeper.turned + headers_at keeper.used ≡ headers_for keeps.stands.lists
+  headers_most turned =
       let header = keeps.stands.header in
       let in_turn : length keeper.turned ≡ length keeper.memory.plans = ap length turned ∙ turned_many keeper.memory.plans in
       let fronts = front_many (areas_in_front header) header.geometry (next_number header.base) keeps.areas.front keeper.memory.plans state keeps.areas.earlier_held in
       let last = headers_last keeps.areas.groups keeper.used keeps.taken in
       let all : headers_for keeps.stands.lists ≡ length keeps.areas.front + headers_for_last keeps.areas.groups = ap headers_for keeps.areas.are ∙ headers_all keeps.areas.front keeps.areas.groups in
-      omega (arith, keeps.generation, in_turn, fronts, last, all)
+      omega (arith, in_turn, fronts, last, all)
+
+  pub headers_left : keeper.turned ≡ turned_of keeper.memory.plans → keeper.generation + length keeper.turned + headers_at keeper.used ≡ keeps.stands.header.generation + headers_for keeps.stands.lists
+  headers_left turned = let most = headers_most turned in omega (arith, keeps.generation, most)
 
   front_empty : keeper.memory.plans ≡ [] → keeps.areas.front ≡ []
   front_empty none =
@@ -183,10 +189,43 @@ is_full keeper state image number keeps last = record {
 pub stood_content : (before : State) (image : Image) (number : ℕ) → IsAllSynced before → StandsFor before.seen image number → (content : List ℕ) → MayLeave before content → StandsFor content image number
 stood_content before image number synced stands content left = subst (λ (c : List ℕ). StandsFor c image number) (sym (leaves_seen before content synced left)) stands
 
--- what a crash leaves while what was opened is recovered, or changed
-pub recovers : {D : Type 0} (before : State) (state : D → State) (found : List ℕ) (keeper : KeeperState D) (result : Result (KeeperState D) (KeeperFault × D)) (image : Image) (number : ℕ) → StandsFor found image number
+-- what a crash leaves of a device that was read alone
+abbrev read_fixed : {D : Type 0} {before : State} {state : D → State} {after : State} {found : List ℕ} → IsReadFixed before state after found → IsFixed before state after found
+read_fixed is = record { first = is.first; synced = is.synced; seen = is.seen; until_then = is.until_then; from_then = weakens is.from_then (λ content same. inl same) }
+
+abbrev pub CrashAndHeaders : {D : Type 0} → State → (D → State) → Result (KeeperState D) (KeeperFault × D) → List ℕ → Type 0
+CrashAndHeaders before state result found = (crash : IsFixedOrNot before state result found) × AreHeadersInTurn before state result found crash
+
+pub read_leaves : {D : Type 0} (before : State) (state : D → State) (found : List ℕ) (result : Result (KeeperState D) (KeeperFault × D)) → IsReadFixedOrNot before state result found → CrashAndHeaders before state result found
+read_leaves before state found result (inl is) = (inl (read_fixed is), inl is.from_then)
+read_leaves before state found result (inr failed) = (inr failed, tt)
+
+-- what a crash leaves while what was read is recovered
+pub recovers : {D : Type 0} (before : State) (state : D → State) (found : List ℕ) (keeper : KeeperState D) (result : Result (KeeperState D) (KeeperFault × D)) (image : Image) (number : ℕ) (stands : StandsFor found image number) (most : ℕ)
+    → keeper.geometry ≡ stands.header.geometry → keeper.generation ≡ stands.header.generation → most ≡ headers_for stands.lists
+    → IsReadFixedOrNot before state (Ok keeper) found → LeavesOnly (state keeper.disk) (state (disk_after result)) (λ content. StandsFor content image number)
+    → HeadersFollowUpTo state keeper.geometry keeper.generation most (state keeper.disk) (state (disk_after result)) → CrashAndHeaders before state result found
+recovers {D} before state found keeper result image number stands most sizes generation most_is (inl is) call headers =
+    let found_header : HasHeader stands.header.geometry stands.header.generation found = record { header = stands.header; slot = stands.slot; in_force = stands.in_force; sizes = refl; number = refl } in
+    let still = weakens is.from_then (λ content same. subst (HasHeader stands.header.geometry stands.header.generation) (sym same) found_header) in
+    let few : headers.0 ≤ headers_for stands.lists = omega (arith, headers.1, most_is) in
+    let there = subst (λ (n : ℕ). HeadersFollow state stands.header.geometry n headers.0 (state keeper.disk) (state (disk_after result))) generation
+    (subst (λ (size : Geometry). HeadersFollow state size keeper.generation headers.0 (state keeper.disk) (state (disk_after result))) sizes headers.2) in (
+      inl (record {
+        first = is.first;
+        synced = is.synced;
+        seen = is.seen;
+        until_then = is.until_then;
+        from_then = goes_on (weakens is.from_then (λ content same. inl same)) call (λ content stood. inr (image, number, stands, stood));
+      }),
+      inr (image, number, stands, (headers.0, few, follows_after state stands.header.geometry stands.header.generation headers.0 _ _ _ still there)),
+    )
+recovers before state found keeper result image number stands most sizes generation most_is (inr failed) call headers = absurd failed
+
+-- and while what was opened is changed
+pub changes : {D : Type 0} (before : State) (state : D → State) (found : List ℕ) (keeper : KeeperState D) (result : Result (KeeperState D) (KeeperFault × D)) (image : Image) (number : ℕ) → StandsFor found image number
     → IsFixedOrNot before state (Ok keeper) found → LeavesOnly (state keeper.disk) (state (disk_after result)) (λ content. StandsFor content image number) → IsFixedOrNot before state result found
-recovers before state found keeper result image number stands opened call = ⊎_elim
+changes before state found keeper result image number stands opened call = ⊎_elim
     (λ is. inl (record {
       first = is.first;
       synced = is.synced;

@@ -1,7 +1,8 @@
 -- A keeper while layout 2 takes the place of layout 1.
-use Rattle.std.proofs.Common.{◌≡◌, ◌≢◌, ◌⊎◌, ⊎_elim, ℕ, ◌+◌, ◌≤◌, ◌<◌, Option, Some, None, Result, Err, List, [], ◌∷◌, refl, sym, ◌∙◌, ap, subst, arith}
+use Rattle.std.proofs.Common.{◌≡◌, ◌≢◌, ◌⊎◌, inl, inr, ⊎_elim, ℕ, ◌+◌, ◌≤◌, ◌<◌, Option, Some, None, Result, Err, List, [], ◌∷◌, refl, sym, ◌∙◌, ap, subst, arith}
 use Rattle.disk_model.specs.Disk.{State, IsSound}
 use Rattle.header_slots.specs.Change.{ComesNext, IsInPlace, IsUpgraded, LeavesEither}
+use Rattle.header_slots.specs.Slots.{HoldsHeader}
 use Rattle.header_slots.specs.declared.header.Header.{Header}
 use Rattle.header_slots.specs.laws.Sole.{same_fields}
 use Rattle.image_model.specs.Image.{Image}
@@ -19,7 +20,7 @@ use Rattle.checkpoint.proofs.Answered.{err_same}
 use Rattle.checkpoint.specs.Keeper.{plans_of}
 use Rattle.checkpoint.specs.Opening.{HasLastGeneration, IsAtRest, IsOpeningRefused, IsPassing, StandsAs}
 use Rattle.checkpoint.specs.Recovery.{IsRecovered}
-use Rattle.checkpoint.specs.Upgrade.{IsChanged, HasLargeAreas, HasSmallAreas, IsUpgradePassing, IsUpgradeRefused}
+use Rattle.checkpoint.specs.Upgrade.{HasEitherLayout, IsChanged, HasLargeAreas, HasSmallAreas, IsUpgradePassing, IsUpgradeRefused}
 use Rattle.checkpoint.specs.inner.Upgrade.{IsLayoutFault}
 use Rattle.checkpoint.specs.declared.fault.KeeperFault.{KeeperFault}
 use Rattle.checkpoint.specs.declared.fault.KeeperFault.TheVariants as faults
@@ -121,6 +122,39 @@ module _ {D : Type 0} (keeper : KeeperState D) (state : State) (image : Image) (
         used = used_none i;
         memory = record keeper.memory { header = header_new i; slot = slot_other i; area = area_new i };
       }
+
+-- which header a crash leaves meanwhile
+module _ {D : Type 0} (keeper : KeeperState D) (state : State) (image : Image) (number : ℕ) (keeps : Keeps keeper state image number) {extent : ℕ} (sound : IsSound extent state)
+    (geometry : Geometry) (two : geometry.layout ≡ layouts.Two) (blocks : geometry.blocks ≡ keeper.memory.header.geometry.blocks) (area : geometry.area ≡ keeper.memory.header.geometry.area)
+    (header : Header) (header_is : IsUpgraded keeper.memory.header geometry header) where
+  pub header_either : (content : List ℕ) → LeavesEither state extent keeper.memory.header keeper.memory.slot header content → HasEitherLayout keeper content
+  header_either content left =
+      let size = left.outside.size ∙ sound.size in
+      ⊎_elim
+      (λ old. inl (record {
+        header = keeper.memory.header;
+        slot = keeper.memory.slot;
+        in_force = subst (λ (n : ℕ). HoldsHeader content n keeper.memory.header keeper.memory.slot) (sym size) old;
+        sizes = ap (λ (h : Header). h.geometry) keeps.headed ∙ sym keeps.sizes;
+        number = ap (λ (h : Header). h.generation) keeps.headed ∙ sym keeps.generation;
+      }))
+      (λ new. inr (record {
+        next = header;
+        slot = other_of keeper.memory.slot;
+        in_force = subst (λ (n : ℕ). HoldsHeader content n header (other_of keeper.memory.slot)) (sym size) new;
+        layout = ap (λ (g : Geometry). g.layout) header_is.geometry ∙ two;
+        blocks = ap (λ (g : Geometry). g.blocks) header_is.geometry ∙ blocks;
+        area = ap (λ (g : Geometry). g.area) header_is.geometry ∙ area;
+        is = record {
+          generation = header_is.generation;
+          geometry = refl;
+          in_front = header_is.in_front;
+          first_area = header_is.first_area;
+          map_slot = header_is.map_slot;
+          base = header_is.base;
+        };
+      }))
+      left.either
 
 -- what is changed is said of the keeper that callers see
 pub changed_by : {D : Type 0} (inside old now : KeeperState D) → inside ≡ old → (geometry : Geometry) → geometry.layout ≡ layouts.Two → geometry.blocks ≡ inside.memory.header.geometry.blocks

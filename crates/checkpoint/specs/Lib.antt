@@ -1,5 +1,6 @@
 pub mod Faults
 pub mod Format
+pub mod Headers
 pub mod Keeper
 pub mod Opening
 pub mod Recovery

@@ -1,5 +1,6 @@
 -- what an opening finds, and what it refuses
 use Rattle.std.specs.Prelude.{ℕ, ◌≡◌, ◌⊎◌, ◌+◌, ◌<◌, List, [], ◌∷◌, length, Result, Ok, Err}
+use mathlib.Core.Logic.{inl, inr}
 use Rattle.header_slots.specs.Slots.{HoldsHeader, HoldsNone, HoldsBad}
 use Rattle.header_slots.specs.declared.header.Header.{Header}
 use Rattle.image_model.specs.declared.side.Side.{Side}
@@ -8,6 +9,7 @@ use Rattle.disk_model.specs.Disk.{State, IsAllSynced, IsSyncFailed, LeavesOnly, 
 use Rattle.journal_format.specs.GroupList.{IsList}
 use Rattle.journal_format.specs.Spelling.{StoredGroup}
 use Rattle.device_image.specs.Keeper.{KeeperState}
+use Rattle.checkpoint.specs.Headers.{HeadersFollowUpTo}
 use Rattle.checkpoint.specs.Keeper.{faults_by}
 use Rattle.device_image.specs.Keeps.{Keeps}
 use Rattle.device_image.specs.Damage.{HasBadMap, HasDamagedGroup}
@@ -114,6 +116,18 @@ abbrev pub headers_for : List (List StoredGroup) → ℕ
 headers_for [] = 0
 headers_for (groups ∷ lists) = headers_from groups lists
 
+-- Nothing but the content found is left, or that stands for an image, and at most as many headers come into force as it takes to
+-- empty its journal, each with the generation after the one before it, in the sizes and the layout found.
+abbrev pub IsEmptiedInTurn : {D : Type 0} → (D → State) → List ℕ → State → State → Type 0
+IsEmptiedInTurn state found first after =
+    LeavesOnly first after (λ content. content ≡ found)
+    ⊎ ((image : Image) × (number : ℕ) × (stands : StandsFor found image number) × HeadersFollowUpTo state stands.header.geometry stands.header.generation (headers_for stands.lists) first after)
+
+-- the same from the first good sync of an opening to its end
+abbrev pub AreHeadersInTurn : {D : Type 0} (before : State) (state : D → State) (result : Result (KeeperState D) (KeeperFault × D)) (found : List ℕ) → IsFixedOrNot before state result found → Type 0
+AreHeadersInTurn before state result found (inl is) = IsEmptiedInTurn state found (state is.first) (state (disk_after result))
+AreHeadersInTurn before state result found (inr failed) = Unit {0}
+
 -- The content stands for an image, and fewer generations follow that of its header than an opening writes headers.
 abbrev pub LacksGenerations : List ℕ → Type 0
 LacksGenerations content = (image : Image) × (number : ℕ) × (stands : StandsFor content image number) × (18446744073709551615 < stands.header.generation + headers_for stands.lists)
@@ -146,5 +160,6 @@ IsOutcome state (Err refused) found = IsOpeningRefused refused.0 found (state re
 pub record IsOpening {D : Type 0} (before : State) (state : D → State) (result : Result (KeeperState D) (KeeperFault × D)) (found : List ℕ) : Type 0 where
   pub fixed : MayLeave before found
   pub outcome : IsOutcome state result found
-  -- what a crash may leave meanwhile, and after a refusal
+  -- what a crash may leave meanwhile, and after a refusal, and which headers
   pub crash : IsFixedOrNot before state result found
+  pub headers : AreHeadersInTurn before state result found crash

@@ -1,5 +1,5 @@
 -- what an upgrade to layout 2 finds, and what it refuses
-use Rattle.std.specs.Prelude.{ℕ, ◌≡◌, ◌≢◌, ◌≤◌, ◌<◌, List, length, Result, Ok, Err, IfOk, MatchResult}
+use Rattle.std.specs.Prelude.{ℕ, ◌≡◌, ◌≢◌, ◌≤◌, ◌<◌, ◌⊎◌, List, length, Result, Ok, Err, IfOk, MatchResult}
 use Rattle.disk_model.specs.Disk.{State, IsAllSynced, LeavesOnly, MayLeave}
 use Rattle.header_slots.specs.Change.{IsUpgraded}
 use Rattle.header_slots.specs.Slots.{HoldsBad, HoldsHeader, HoldsNone}
@@ -12,6 +12,7 @@ use Rattle.device_image.specs.Damage.{HasBadMap, HasDamagedGroup}
 use Rattle.device_image.specs.Keeper.{KeeperState}
 use Rattle.device_image.specs.Keeps.{Keeps}
 use Rattle.device_image.specs.Stands.{StandsFor}
+use Rattle.checkpoint.specs.Headers.{HasHeader}
 use Rattle.checkpoint.specs.Opening.{HasLastGeneration, IsAtRest, IsFixedOrNot, IsOpening, StandsAs, disk_after, faults_after_opening}
 use Rattle.checkpoint.specs.Recovery.{IsRecovered}
 use Rattle.checkpoint.specs.declared.fault.KeeperFault.{KeeperFault}
@@ -72,6 +73,20 @@ pub record IsChanged {D : Type 0} (opened keeper : KeeperState D) : Type 0 where
   pub map : keeper.memory.map ≡ opened.memory.map
   pub count : keeper.count ≡ opened.count
 
+-- The header in force is the one that an upgrade writes over this one: layout 2 in the same sizes, and the next generation.
+pub record HasUpgradedHeader (header : Header) (content : List ℕ) : Type 0 where
+  pub next : Header
+  pub slot : Side
+  pub in_force : HoldsHeader content (length content) next slot
+  pub layout : next.geometry.layout ≡ Two
+  pub blocks : next.geometry.blocks ≡ header.geometry.blocks
+  pub area : next.geometry.area ≡ header.geometry.area
+  pub is : IsUpgraded header next.geometry next
+
+-- the header of the opening is in force, or the one that an upgrade writes over it
+abbrev pub HasEitherLayout : {D : Type 0} → KeeperState D → List ℕ → Type 0
+HasEitherLayout opened content = HasHeader opened.geometry opened.generation content ⊎ HasUpgradedHeader opened.memory.header content
+
 -- What an upgrade makes of what its opening came to: a refusal is handed on, and a device of layout 2 stays as it is. In layout
 -- 1 areas that would be too small refuse it, then a last generation does, and both leave what the opening left; else the header
 -- is changed, unless the device fails.
@@ -92,6 +107,8 @@ pub record IsOpenedAndUpgraded {D : Type 0} (state : D → State) (faults : D �
   pub found : honest disk → (content : List ℕ) × IsOpening (state disk) state opened content × IsUpgrade (state disk) state result content
   pub at_rest : honest disk → IsAllSynced (state disk) → IsAtRest (state disk).seen → LeavesOnly (state disk) (state (disk_after opened)) (λ content. content ≡ (state disk).seen)
   pub changed : IsUpgradeOf opened result
+  -- what a crash leaves once it is opened
+  pub headers : honest disk → IfOk opened (λ keeper. LeavesOnly (state keeper.disk) (state (disk_after result)) (HasEitherLayout keeper))
 
 -- a refusal of an upgrade that comes of a content which stands for an image too
 abbrev pub IsUpgradePassing : KeeperFault → Type 0

@@ -3,8 +3,8 @@ ghost use Rattle.checkpoint.specs.Keeper.{AreSized, faults_by};
 ghost use Rattle.device_image.specs.Keeps.{HoldsAreas, IsPlaced, Keeps};
 ghost use Rattle.device_image.specs.inner.Keeps.{HoldsListed};
 ghost use Rattle.device_image.specs.Damage.{IsAreaDamaged};
-ghost use Rattle.checkpoint.specs.Opening.{IsFixed, IsFixedOrNot, IsRefused, disk_after, faults_after_opening};
-ghost use Rattle.checkpoint.specs.inner.Opening.{IsOpened, IsGroupsRefused};
+ghost use Rattle.checkpoint.specs.Opening.{IsRefused, disk_after, faults_after_opening};
+ghost use Rattle.checkpoint.specs.inner.Opening.{IsOpened, IsGroupsRefused, IsReadFixed, IsReadFixedOrNot};
 ghost use Rattle.checkpoint.specs.inner.Recovery.{IsBegun};
 ghost use Rattle.checkpoint.specs.declared.fault.KeeperFault.TheVariants as KeeperFault;
 ghost use Rattle.device_image.specs.Keeper.{AreUncopied, IsUncopied, earlier_of, last_turned, turned_of};
@@ -54,7 +54,7 @@ pub fn load<D: Disk>(alloc: Global, mut disk: D) -> Result<Keeper<D>, (KeeperFau
         (λ keeper. (image : Image) × Keeps keeper (D.state keeper.disk) image keeper.count)
         (λ refused. IsRefused refused.0 (D.state refused.1).seen) }
     ensures fixed { D.honest disk → MayLeave (D.state disk) (D.state (disk_after result)).seen }
-    ensures first { D.honest disk → IsFixedOrNot (D.state disk) D.state result (D.state (disk_after result)).seen }
+    ensures first { D.honest disk → IsReadFixedOrNot (D.state disk) D.state result (D.state (disk_after result)).seen }
     ensures any_moment { D.honest disk → LeavesOnly (D.state disk) (D.state (disk_after result)) (MayLeave (D.state disk)) }
 {
     match read_device(alloc, &mut disk) {
@@ -102,7 +102,7 @@ fn read_device<D: Disk>(alloc: Global, disk: &mut D) -> Result<Opened, KeeperFau
     ensures many { IfOk result (λ opened. opened.header.in_front ≡ length opened.plans.items) }
 
     ensures fixed { D.honest disk.old → MayLeave (D.state disk.old) (D.state disk.new).seen }
-    ensures first { D.honest disk.old → IsFixed (D.state disk.old) D.state (D.state disk.new) (D.state disk.new).seen
+    ensures first { D.honest disk.old → IsReadFixed (D.state disk.old) D.state (D.state disk.new) (D.state disk.new).seen
         ⊎ ((result ≡ Err KeeperFault.DeviceFault) × IsSyncFailed (D.state disk.old) (D.state disk.new)) }
     ensures read { D.honest disk.old → MatchResult result
         (λ opened. IsOpened (D.state disk.new) opened.header opened.slot opened.map opened.plans.items opened.area)

@@ -1,4 +1,5 @@
 ghost use Rattle.std.specs.Prelude.{◌≡◌, ◌≢◌, ◌==◌, ℕ, ◌+◌, ◌<◌, ◌↔◌, List, [], length, false, IfErr, IfOk, IsTrue, OnOk, Err, Ok};
+ghost use Rattle.checkpoint.specs.Headers.{HasHeader, HasHeaderOrNext, HeadersFollow, HeadersFollowUpTo};
 ghost use Rattle.checkpoint.specs.Keeper.{faults_by};
 ghost use Rattle.checkpoint.specs.Opening.{IsAtRest, IsOpening, IsPassing, disk_after, faults_after_opening};
 ghost use Rattle.checkpoint.specs.Recovery.{IsRecovered};
@@ -43,7 +44,8 @@ impl<D: Disk> Keeper<D> {
         // On an honest device there is a content, one that a crash at the start may leave, that is found: at `Ok` it stands
         // for an image, which the keeper keeps with an empty journal, and each header that was written has the generation after
         // the one before it; a refusal says what is bad of it. Until a sync is good, and if none is, a crash leaves what it could
-        // leave at the start; from then on, at every moment and after every refusal, the content found or what stands for the same.
+        // leave at the start; from then on, at every moment and after every refusal, the content found or what stands for the same,
+        // in the same sizes and layout, with a header that is one of those.
         ensures found { D.honest disk → (content : List ℕ) × IsOpening (D.state disk) D.state result content }
 
         // Where nothing is unsynced at the start and the content stands for an image, the keeper keeps that one, only want
@@ -93,6 +95,8 @@ impl<D: Disk> Keeper<D> {
             → IfErr result (λ fault. fault ≢ KeeperFault.DeviceFault → Keeps self.new (D.state self.new.disk) image number) }
         ensures any_moment { D.honest self.old.disk → (image : Image) (number : ℕ) → Keeps self.old (D.state self.old.disk) image number
             → LeavesOnly (D.state self.old.disk) (D.state self.new.disk) (λ content. StandsFor content image number) }
+        ensures headers { D.honest self.old.disk → (image : Image) (number : ℕ) → Keeps self.old (D.state self.old.disk) image number
+            → HeadersFollowUpTo D.state self.old.geometry self.old.generation (length self.old.turned + headers_at self.old.used) (D.state self.old.disk) (D.state self.new.disk) }
     {
         self.end_begun()?;
         if self.is_empty() {
@@ -126,6 +130,10 @@ impl<D: Disk> Keeper<D> {
             → IfErr result (λ fault. fault ≢ KeeperFault.DeviceFault → Keeps self.new (D.state self.new.disk) image number) }
         ensures any_moment { D.honest self.old.disk → (image : Image) (number : ℕ) → Keeps self.old (D.state self.old.disk) image number
             → LeavesOnly (D.state self.old.disk) (D.state self.new.disk) (λ content. StandsFor content image number) }
+        ensures headers_ok { D.honest self.old.disk → (image : Image) (number : ℕ) → Keeps self.old (D.state self.old.disk) image number
+            → OnOk result (HeadersFollow D.state self.old.geometry self.old.generation (length self.old.turned) (D.state self.old.disk) (D.state self.new.disk)) }
+        ensures headers_err { D.honest self.old.disk → (image : Image) (number : ℕ) → Keeps self.old (D.state self.old.disk) image number
+            → IfErr result (λ fault. HeadersFollowUpTo D.state self.old.geometry self.old.generation (length self.old.turned) (D.state self.old.disk) (D.state self.new.disk)) }
     {
         while self.is_turning() {
             self.end_checkpoint()?;
@@ -154,6 +162,8 @@ impl<D: Disk> Keeper<D> {
             → IfErr result (λ fault. fault ≢ KeeperFault.DeviceFault → Keeps self.new (D.state self.new.disk) image number) }
         ensures any_moment { D.honest self.old.disk → (image : Image) (number : ℕ) → Keeps self.old (D.state self.old.disk) image number
             → LeavesOnly (D.state self.old.disk) (D.state self.new.disk) (λ content. StandsFor content image number) }
+        ensures header { D.honest self.old.disk → (image : Image) (number : ℕ) → Keeps self.old (D.state self.old.disk) image number
+            → LeavesOnly (D.state self.old.disk) (D.state self.new.disk) (HasHeaderOrNext self.old.geometry self.old.generation) }
     {
         self.copy_all()?;
         self.write_map()?;
@@ -179,6 +189,8 @@ impl<D: Disk> Keeper<D> {
             → IfErr result (λ fault. fault ≢ KeeperFault.DeviceFault → Keeps self.new (D.state self.new.disk) image number) }
         ensures any_moment { D.honest self.old.disk → (image : Image) (number : ℕ) → Keeps self.old (D.state self.old.disk) image number
             → LeavesOnly (D.state self.old.disk) (D.state self.new.disk) (λ content. StandsFor content image number) }
+        ensures header { D.honest self.old.disk → (image : Image) (number : ℕ) → Keeps self.old (D.state self.old.disk) image number
+            → LeavesOnly (D.state self.old.disk) (D.state self.new.disk) (HasHeader self.old.geometry self.old.generation) }
     {
         while self.left() > 0 {
             let _blocks = self.copy_some(MOST_COPIED)?;

@@ -1,4 +1,5 @@
 ghost use Rattle.std.specs.Prelude.{◌≡◌, ◌≢◌, ◌⊎◌, ℕ, suc, ◌+◌, ◌-◌, ◌<◌, ◌≤◌, ◌↔◌, List, [], ◌∷◌, ◌++◌, length, false, IfErr, IfNone, IfOk, IfSome, IsTrue, Err, OnOk};
+ghost use Rattle.checkpoint.specs.Headers.{HasHeader, HasHeaderOrNext};
 ghost use Rattle.checkpoint.specs.Keeper.{faults_by, refused_by};
 ghost use Rattle.checkpoint.specs.Steps.{IsCopyTime, IsFinishTime, IsMapTime, IsRotateTime, IsStepFault, copied_by, finished_by, first_turned, left_in, mapped_by, phase_with, rotated_by};
 ghost use Rattle.checkpoint.specs.inner.Steps.{map_after, plans_behind};
@@ -52,11 +53,13 @@ impl<D: Disk> Keeper<D> {
         ensures remembered { (commands : List Change) → Remembers self.old commands → OnOk result (Remembers self.new commands) }
 
         // On an honest device: at `Ok` the keeper holds the same commands over the same image, and where it keeps an image
-        // whatever a crash at any moment leaves stands for it.
+        // whatever a crash at any moment leaves stands for it, with the same header in force.
         ensures held { D.honest self.old.disk → (base : Image) (fronts : List (List Change)) (last : List Change) → Holds self.old (D.state self.old.disk) base fronts last
             → OnOk result (Holds self.new (D.state self.new.disk) base fronts last) }
         ensures any_moment { D.honest self.old.disk → (image : Image) (number : ℕ) → Keeps self.old (D.state self.old.disk) image number
             → LeavesOnly (D.state self.old.disk) (D.state self.new.disk) (λ content. StandsFor content image number) }
+        ensures header { D.honest self.old.disk → (image : Image) (number : ℕ) → Keeps self.old (D.state self.old.disk) image number
+            → LeavesOnly (D.state self.old.disk) (D.state self.new.disk) (HasHeader self.old.geometry self.old.generation) }
     {
         if self.failed {
             return Err(KeeperFault::Failed);
@@ -110,6 +113,8 @@ impl<D: Disk> Keeper<D> {
             → OnOk result (Holds self.new (D.state self.new.disk) base fronts last) }
         ensures any_moment { D.honest self.old.disk → (image : Image) (number : ℕ) → Keeps self.old (D.state self.old.disk) image number
             → LeavesOnly (D.state self.old.disk) (D.state self.new.disk) (λ content. StandsFor content image number) }
+        ensures header { D.honest self.old.disk → (image : Image) (number : ℕ) → Keeps self.old (D.state self.old.disk) image number
+            → LeavesOnly (D.state self.old.disk) (D.state self.new.disk) (HasHeader self.old.geometry self.old.generation) }
     {
         let _one = self.copy_some(1)?;
         Ok(())
@@ -140,11 +145,14 @@ impl<D: Disk> Keeper<D> {
         ensures left { (commands : List Change) → Remembers self.old commands → OnOk result (self.new.lefts ≡ self.old.lefts ++ len (dirty_blocks 0 commands) ∷ []) }
         ensures phase { (commands : List Change) → Remembers self.old commands → OnOk result (self.new.phase ≡ phase_with self.old.phase (len (dirty_blocks 0 commands))) }
 
-        // On an honest device: at `Ok` the commands of the last area stand in front of an empty list. A crash as for `copy_some`.
+        // On an honest device: at `Ok` the commands of the last area stand in front of an empty list. A crash as for `copy_some`,
+        // but that the next header may be in force.
         ensures held { D.honest self.old.disk → (base : Image) (fronts : List (List Change)) (last : List Change) → Holds self.old (D.state self.old.disk) base fronts last
             → OnOk result (Holds self.new (D.state self.new.disk) base (fronts ++ last ∷ []) []) }
         ensures any_moment { D.honest self.old.disk → (image : Image) (number : ℕ) → Keeps self.old (D.state self.old.disk) image number
             → LeavesOnly (D.state self.old.disk) (D.state self.new.disk) (λ content. StandsFor content image number) }
+        ensures header { D.honest self.old.disk → (image : Image) (number : ℕ) → Keeps self.old (D.state self.old.disk) image number
+            → LeavesOnly (D.state self.old.disk) (D.state self.new.disk) (HasHeaderOrNext self.old.geometry self.old.generation) }
     {
         if self.failed {
             return Err(KeeperFault::Failed);
@@ -261,6 +269,8 @@ impl<D: Disk> Keeper<D> {
             → OnOk result (Holds self.new (D.state self.new.disk) base fronts last) }
         ensures any_moment { D.honest self.old.disk → (image : Image) (number : ℕ) → Keeps self.old (D.state self.old.disk) image number
             → LeavesOnly (D.state self.old.disk) (D.state self.new.disk) (λ content. StandsFor content image number) }
+        ensures header { D.honest self.old.disk → (image : Image) (number : ℕ) → Keeps self.old (D.state self.old.disk) image number
+            → LeavesOnly (D.state self.old.disk) (D.state self.new.disk) (HasHeader self.old.geometry self.old.generation) }
     {
         if self.failed {
             return Err(KeeperFault::Failed);
@@ -310,12 +320,14 @@ impl<D: Disk> Keeper<D> {
         ensures remembered { (commands : List Change) → Remembers self.old commands → OnOk result (Remembers self.new commands) }
 
         // On an honest device: at `Ok` map and data hold what the commands of the first area made of the image that they held. A
-        // crash as for `copy_some`.
+        // crash as for `rotate`.
         ensures held { D.honest self.old.disk → (base : Image) (first : List Change) (others : List (List Change)) (last : List Change)
             → Holds self.old (D.state self.old.disk) base (first ∷ others) last
             → OnOk result (Holds self.new (D.state self.new.disk) (apply_all first base) others last) }
         ensures any_moment { D.honest self.old.disk → (image : Image) (number : ℕ) → Keeps self.old (D.state self.old.disk) image number
             → LeavesOnly (D.state self.old.disk) (D.state self.new.disk) (λ content. StandsFor content image number) }
+        ensures header { D.honest self.old.disk → (image : Image) (number : ℕ) → Keeps self.old (D.state self.old.disk) image number
+            → LeavesOnly (D.state self.old.disk) (D.state self.new.disk) (HasHeaderOrNext self.old.geometry self.old.generation) }
     {
         if self.failed {
             return Err(KeeperFault::Failed);

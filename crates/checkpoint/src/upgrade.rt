@@ -2,7 +2,7 @@ ghost use Rattle.std.specs.Prelude.{◌≡◌, ◌⊎◌, ℕ, ◌≤◌, ◌<�
 ghost use Rattle.checkpoint.specs.Keeper.{faults_by};
 ghost use Rattle.checkpoint.specs.Opening.{disk_after, faults_after_opening};
 ghost use Rattle.checkpoint.specs.Recovery.{IsRecovered};
-ghost use Rattle.checkpoint.specs.Upgrade.{IsChanged, IsOpenedAndUpgraded, IsUpgradePassing};
+ghost use Rattle.checkpoint.specs.Upgrade.{HasEitherLayout, IsChanged, IsOpenedAndUpgraded, IsUpgradePassing};
 ghost use Rattle.checkpoint.specs.inner.Upgrade.{IsLayoutFault};
 ghost use Rattle.checkpoint.specs.declared.fault.KeeperFault.TheVariants as KeeperFault;
 ghost use Rattle.device_image.specs.Keeps.{Keeps};
@@ -36,7 +36,8 @@ impl<D: Disk> Keeper<D> {
         ensures recovered { IfOk result IsRecovered }
         ensures layout { IfOk result (λ keeper. keeper.geometry.layout ≡ Layout.Two) }
 
-        // There is an opening that it goes on from, and of the content found is said what `open` says.
+        // There is an opening that it goes on from, and of the content found is said what `open` says; once it is opened, a crash
+        // leaves its header in force, or the one that makes layout 2 of it.
         ensures steps { IsOpenedAndUpgraded D.state D.faults D.honest disk result }
 
         // Where nothing is unsynced at the start and the content stands for an image, the keeper keeps that one, only want
@@ -81,6 +82,8 @@ impl<D: Disk> Keeper<D> {
             → OnOk result (Keeps self.new (D.state self.new.disk) image number) }
         ensures any_moment { D.honest self.old.disk → (image : Image) (number : ℕ) → Keeps self.old (D.state self.old.disk) image number
             → LeavesOnly (D.state self.old.disk) (D.state self.new.disk) (λ content. StandsFor content image number) }
+        ensures header { D.honest self.old.disk → (image : Image) (number : ℕ) → Keeps self.old (D.state self.old.disk) image number
+            → LeavesOnly (D.state self.old.disk) (D.state self.new.disk) (HasEitherLayout self.old) }
     {
         let geometry = self.header.geometry;
         match geometry.layout {

@@ -91,6 +91,13 @@ idle_rule = record (option_rule (codes "idle-timeout")) { parser = Some (parser.
 abbrev pub flush_rule : Rule
 flush_rule = record (option_rule (codes "flush-interval")) { defaults = codes "1" ∷ [] }
 
+-- a number of bytes, which clap takes as any text
+abbrev pub loss_bytes_rule : Rule
+loss_bytes_rule = record (option_rule (codes "loss-bytes")) { defaults = codes "64M" ∷ [] }
+
+abbrev pub loss_seconds_rule : Rule
+loss_seconds_rule = record (option_rule (codes "loss-seconds")) { defaults = codes "0" ∷ [] }
+
 abbrev pub on_fault_rule : Rule
 on_fault_rule = record (option_rule (codes "on-fault")) { defaults = codes "exit" ∷ [] }
 
@@ -101,8 +108,35 @@ abbrev pub timed_app : ValueParser → App
 timed_app modes =
     with_rule (with_rule (with_rule (with_rule (loaded_app modes) sessions_rule) handshake_rule) idle_rule) flush_rule
 
+abbrev pub bounded_app : ValueParser → App
+bounded_app modes = with_rule (with_rule (timed_app modes) loss_bytes_rule) loss_seconds_rule
+
+-- the name of the export; a fresh one wants it
+abbrev pub fresh_rule : Rule
+fresh_rule = record (flag_rule (codes "fresh-name")) { is_free = false }
+
+abbrev pub named_app : ValueParser → App
+named_app modes = with_rule (with_rule (bounded_app modes) (option_rule (codes "export-name"))) fresh_rule
+
+abbrev pub told_app : ValueParser → App
+told_app modes = with_rule (with_rule (with_rule (named_app modes) on_fault_rule) (flag_rule (codes "until-eof"))) (option_rule (codes "status"))
+
+-- how long a call of the device may take, and how long it is from one lock check to the next; 0 for never
+abbrev pub device_rule : Rule
+device_rule = record (option_rule (codes "device-timeout")) { defaults = codes "0" ∷ [] }
+
+abbrev pub check_rule : Rule
+check_rule = record (option_rule (codes "lock-check")) { defaults = codes "0" ∷ [] }
+
+-- the option `--wait-lock` of `serve`, `recover` and `upgrade`
+abbrev pub wait_lock_rule : Rule
+wait_lock_rule = flag_rule (codes "wait-lock")
+
+abbrev pub guarded_app : ValueParser → App
+guarded_app modes = with_rule (with_rule (with_rule (told_app modes) device_rule) check_rule) wait_lock_rule
+
 abbrev pub serve_app : ValueParser → App
-serve_app modes = with_rule (with_rule (with_rule (with_rule (timed_app modes) on_fault_rule) (flag_rule (codes "until-eof"))) (option_rule (codes "status"))) verbose_rule
+serve_app modes = with_rule (guarded_app modes) verbose_rule
 
 -- the one word that is no option: a server's status socket
 abbrev pub socket_rule : Rule
@@ -111,14 +145,21 @@ socket_rule = record (new_rule (codes "socket")) { value_names = 1; required = t
 abbrev pub json_rule : Rule
 json_rule = record (flag_rule (codes "json")) { is_free = false }
 
+-- each of these excludes another one
+abbrev pub watch_rule : Rule
+watch_rule = record (flag_rule (codes "watch")) { is_free = false }
+
+abbrev pub store_rule : Rule
+store_rule = record (flag_rule (codes "store")) { is_free = false }
+
 abbrev pub status_app : App
-status_app = with_rule (with_rule (with_rule (with_rule (new_app (codes "status")) socket_rule) json_rule) (flag_rule (codes "watch"))) verbose_rule
+status_app = with_rule (with_rule (with_rule (with_rule (with_rule (new_app (codes "status")) socket_rule) json_rule) watch_rule) store_rule) verbose_rule
 
 abbrev pub recover_app : App
-recover_app = with_rule (with_rule (with_rule (new_app (codes "recover")) path_rule) (flag_rule (codes "json"))) verbose_rule
+recover_app = with_rule (with_rule (with_rule (with_rule (new_app (codes "recover")) path_rule) (flag_rule (codes "json"))) wait_lock_rule) verbose_rule
 
 abbrev pub upgrade_app : App
-upgrade_app = with_rule (with_rule (new_app (codes "upgrade")) path_rule) verbose_rule
+upgrade_app = with_rule (with_rule (with_rule (new_app (codes "upgrade")) path_rule) wait_lock_rule) verbose_rule
 
 abbrev pub check_app : App
 check_app = with_rule (with_rule (with_rule (new_app (codes "check")) path_rule) (flag_rule (codes "json"))) verbose_rule

@@ -8,15 +8,16 @@ use Rattle.command_line.specs.Size.{IsSize}
 use Rattle.image_model.specs.declared.layout.Layout.{Layout}
 use Rattle.image_model.specs.declared.layout.Layout.TheVariants.{One, Two}
 use Rattle.export_model.specs.declared.step.Mode.{Mode}
-use Rattle.export_model.specs.declared.step.Mode.TheVariants.{Writeback, Writethrough}
+use Rattle.export_model.specs.declared.step.Mode.TheVariants.{Writeback, Writethrough, Ordered}
 use Rattle.front_end.specs.declared.plan.Invocation.{Invocation}
 use Rattle.front_end.specs.declared.plan.Plan.{Plan}
 use Rattle.front_end.specs.declared.plan.Address.{Address}
 use Rattle.front_end.specs.declared.plan.Address.TheVariants.{Tcp, Unix}
 use Rattle.front_end.specs.declared.plan.Course.{Course}
 use Rattle.front_end.specs.declared.plan.Course.TheVariants.{Once, Sweep, Faults}
+use Rattle.front_end.specs.declared.plan.ServedName.{ServedName}
 use Rattle.front_end.specs.declared.plan.StatusForm.{StatusForm}
-use Rattle.front_end.specs.declared.plan.StatusForm.TheVariants.{Lines, Json, Watch}
+use Rattle.front_end.specs.declared.plan.StatusForm.TheVariants.{Lines, Json, Watch, Store}
 use Rattle.front_end.specs.declared.plan.Plan.TheVariants.{Format, Pipe, Serve, Status, Recover, Upgrade, Check, Rehearse, Refuse}
 use Rattle.front_end.specs.declared.refusal.Refusal.TheVariants.{AreaSmall}
 use Rattle.front_end.specs.declared.options.Limits.{Limits}
@@ -102,6 +103,7 @@ HasPath rows path = first_of (codes "path") rows ≡ Some path
 abbrev pub mode_name : Mode → Text
 mode_name Writeback = codes "writeback"
 mode_name Writethrough = codes "writethrough"
+mode_name Ordered = codes "ordered"
 
 abbrev pub fault_name : OnFault → Text
 fault_name Exit = codes "exit"
@@ -111,11 +113,13 @@ abbrev pub full_name : WhenFull → Text
 full_name full.Wait = codes "wait"
 full_name full.Refuse = codes "refuse"
 
--- how many sessions there are, and how long each waits
+-- how many sessions there are, how long each waits, how long a call of the device may take, and how long it is between lock checks
 abbrev pub SaysLimits : List Row → Limits → Type 0
 SaysLimits rows limits =
     IsGiven rows (codes "sessions") limits.sessions × IsGiven rows (codes "handshake-timeout") limits.handshake_seconds
     × IsGiven rows (codes "idle-timeout") limits.idle_seconds × IsGivenSeconds rows (codes "flush-interval") limits.flush_millis
+    × IsGivenSize rows (codes "loss-bytes") limits.loss_bytes × IsGivenSeconds rows (codes "loss-seconds") limits.loss_millis
+    × IsGivenSeconds rows (codes "device-timeout") limits.device_millis × IsGivenSeconds rows (codes "lock-check") limits.check_millis
 
 -- the mode of a socket is what --unix-mode says, within the bits for owner, group and others; none where it is left out
 abbrev pub SaysUnixMode : List Row → Option ℕ → Type 0
@@ -144,11 +148,20 @@ SaysAddresses rows addresses =
 abbrev pub SaysStatusSocket : List Row → Option Text → Type 0
 SaysStatusSocket rows path = (first_of (codes "status") rows ≡ path) × (path ≢ Some [])
 
--- which of --json and --watch was given, if any
+-- clients ask for the export by the name that --export-name gives, and by an empty one where it is left out
+abbrev pub SaysName : List Row → ServedName → Type 0
+SaysName rows name = (unwrap_or (first_of (codes "export-name") rows) [] ≡ name.text.now) × SaysFlag rows (codes "fresh-name") name.is_fresh
+
+-- whether just these of --json, --watch and --store were given
+abbrev pub SaysForms : List Row → Bool → Bool → Bool → Type 0
+SaysForms rows json watch store = SaysFlag rows (codes "json") json × SaysFlag rows (codes "watch") watch × SaysFlag rows (codes "store") store
+
+-- which of them was given, if any
 abbrev pub SaysStatusForm : List Row → StatusForm → Type 0
-SaysStatusForm rows Lines = SaysFlag rows (codes "json") false × SaysFlag rows (codes "watch") false
-SaysStatusForm rows Json = SaysFlag rows (codes "json") true × SaysFlag rows (codes "watch") false
-SaysStatusForm rows Watch = SaysFlag rows (codes "json") false × SaysFlag rows (codes "watch") true
+SaysStatusForm rows Lines = SaysForms rows false false false
+SaysStatusForm rows Json = SaysForms rows true false false
+SaysStatusForm rows Watch = SaysForms rows false true false
+SaysStatusForm rows Store = SaysForms rows false false true
 
 -- which of --sweep and --faults was given, if any
 abbrev pub SaysScriptRuns : List Row → Course → Type 0
@@ -166,8 +179,8 @@ IsAsked (Some (name, rows)) (Format path geometry options) =
 IsAsked (Some (name, rows)) (Pipe path options) =
     (name ≡ codes "pipe") × HasPath rows path.now × IsGiven rows (codes "frames") options.frames
     × (first_of (codes "cache") rows ≡ Some (mode_name options.mode))
-IsAsked (Some (name, rows)) (Serve path addresses status options) =
-    (name ≡ codes "serve") × HasPath rows path.now × SaysAddresses rows addresses.items × SaysStatusSocket rows (option_map (λ path. path.now) status) × IsGiven rows (codes "workers") options.workers
+IsAsked (Some (name, rows)) (Serve path addresses status called options) =
+    (name ≡ codes "serve") × HasPath rows path.now × SaysAddresses rows addresses.items × SaysStatusSocket rows (option_map (λ path. path.now) status) × SaysName rows called × IsGiven rows (codes "workers") options.workers
     × IsGiven rows (codes "frames") options.frames × (first_of (codes "cache") rows ≡ Some (mode_name options.mode))
     × SaysLimits rows options.limits × (first_of (codes "on-fault") rows ≡ Some (fault_name options.on_fault))
     × (first_of (codes "when-full") rows ≡ Some (full_name options.when_full))
@@ -179,7 +192,9 @@ IsAsked (Some (name, rows)) (Check path is_json) = (name ≡ codes "check") × H
 IsAsked (Some (name, rows)) (Rehearse course) = (name ≡ codes "rehearse") × SaysScriptRuns rows course
 IsAsked (Some (name, rows)) (Refuse path refusal) = (name ≡ codes "format") × HasPath rows path.now × SaysSmallAreas rows × (refusal ≡ AreaSmall)
 
--- the subcommand asks for this plan, and to tell of it or not
+-- the subcommand asks for this plan, to tell of it or not, and to wait for the lock or not
 abbrev pub IsInvocation : Option (Text × List Row) → Invocation → Type 0
 IsInvocation None invocation = ⊥
-IsInvocation (Some (name, rows)) invocation = IsAsked (Some (name, rows)) invocation.plan × SaysFlag rows (codes "verbose") invocation.is_verbose
+IsInvocation (Some (name, rows)) invocation =
+    IsAsked (Some (name, rows)) invocation.plan × SaysFlag rows (codes "verbose") invocation.is_verbose
+    × SaysFlag rows (codes "wait-lock") invocation.waits_for_lock

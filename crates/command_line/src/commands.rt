@@ -210,17 +210,28 @@ const CACHE: ArgumentRow<'static> = ArgumentRow {
     name: "cache",
     form: Form::ValueOr("MODE", "writeback", CACHE_MODES),
     tie: Tie::None,
-    help: "When a write is answered: once it has its place in the order, or once it is stored",
+    help: "`ordered`: a FLUSH makes nothing durable; `writeback`: it does, and a write is answered once it has its place in the order; `writethrough`: once it is stored",
 };
 
 // The modes of `--cache`.
-const CACHE_MODES: ValueParser<'static> = ValueParser::Names(&["writeback", "writethrough"]);
+const CACHE_MODES: ValueParser<'static> = ValueParser::Names(&[
+    "writeback",
+    "writethrough",
+    "ordered",
+]);
 
 const VERBOSE: ArgumentRow<'static> = ArgumentRow {
     name: "verbose",
     form: Form::ShortFlag('v'),
     tie: Tie::None,
     help: "Tells on standard error what happens, and why something can't be done",
+};
+
+const WAIT_LOCK: ArgumentRow<'static> = ArgumentRow {
+    name: "wait-lock",
+    form: Form::Flag,
+    tie: Tie::None,
+    help: "While another process has locked the file or the device, waits and tries again every half second",
 };
 
 const JSON: ArgumentRow<'static> = ArgumentRow {
@@ -284,7 +295,7 @@ pub static FORMAT: SubcommandRow<'static> = SubcommandRow {
 pub static SERVE: SubcommandRow<'static> = SubcommandRow {
     name: "serve",
     about: "Serves the image to clients of the Network Block Device protocol",
-    after_help: "Example: nbdj serve d.img --listen 127.0.0.1:10809\n\n--listen and --unix may be given more than once, and together. Without them it serves at the sockets that LISTEN_FDS counts. For each socket it prints `listening PORT`, or `listening SOCKET`, once clients can come. A kill is as a power cut: every write that a FLUSH, or a FUA reply, has confirmed stays. nbdj-server runs it so that a signal loses no other write either.\n\nExit status: 0 ended as asked; 1 a fault of file, image, address, device or memory; 2 a refused command line; 4 a file or a device in use.",
+    after_help: "Example: nbdj serve d.img --listen 127.0.0.1:10809\n\n--listen and --unix may be given more than once, and together. Without them it serves at the sockets that LISTEN_FDS counts. For each socket it prints `listening PORT`, or `listening SOCKET`, once clients can come. A kill is as a power cut: every write that a FLUSH, or a FUA reply, has confirmed stays. With --cache ordered a FLUSH does not make anything durable: answered writes may be lost, the last ones first. nbdj-server runs it so that a signal loses no other write either.\n\nExit status: 0 ended as asked; 1 a fault of file, image, address, device or memory; 2 a refused command line; 4 a file or a device in use.",
     usage: Some(
         "nbdj serve [OPTIONS] --listen <ADDR> <PATH>\n       nbdj serve [OPTIONS] --unix <SOCKET> <PATH>\n       nbdj serve [OPTIONS] <PATH>",
     ),
@@ -347,6 +358,30 @@ pub static SERVE: SubcommandRow<'static> = SubcommandRow {
             help: "After so long a write is stored though no client flushes: 0.001 to 86400, as 0.1, or 0 for never",
         },
         ArgumentRow {
+            name: "loss-bytes",
+            form: Form::TextOr("BYTES", "64M"),
+            tie: Tie::None,
+            help: "A power cut takes at most so many bytes of answered writes: a write waits while more could be pending; 2M to 64M",
+        },
+        ArgumentRow {
+            name: "loss-seconds",
+            form: Form::TextOr("SECONDS", "0"),
+            tie: Tie::None,
+            help: "A write waits while an older one has been pending for longer: 0.001 to 86400, as 0.5, or 0 for any age",
+        },
+        ArgumentRow {
+            name: "export-name",
+            form: Form::Text("NAME"),
+            tie: Tie::None,
+            help: "The name that clients ask for the export by, up to 4075 bytes; by default the empty name",
+        },
+        ArgumentRow {
+            name: "fresh-name",
+            form: Form::Flag,
+            tie: Tie::Requires("export-name"),
+            help: "Names the export NAME-N, with a new number N at each start, which is printed: clients of an earlier start are refused",
+        },
+        ArgumentRow {
             name: "on-fault",
             form: Form::TextOr("WAY", "exit"),
             tie: Tie::None,
@@ -364,6 +399,19 @@ pub static SERVE: SubcommandRow<'static> = SubcommandRow {
             tie: Tie::None,
             help: "The path of a Unix socket at which the server tells its figures over HTTP; see nbdj status",
         },
+        ArgumentRow {
+            name: "device-timeout",
+            form: Form::TextOr("SECONDS", "0"),
+            tie: Tie::None,
+            help: "Ends the server at once with status 1 if a call of the device takes longer: 0.001 to 86400, as 0.1, or 0 for no limit",
+        },
+        ArgumentRow {
+            name: "lock-check",
+            form: Form::TextOr("SECONDS", "0"),
+            tie: Tie::None,
+            help: "Takes the lock again and syncs the device this often, and a refusal is a device fault: 0.001 to 86400, as 0.1, or 0 for never",
+        },
+        WAIT_LOCK,
         VERBOSE,
     ],
 };
@@ -389,8 +437,14 @@ static STATUS: SubcommandRow<'static> = SubcommandRow {
         ArgumentRow {
             name: "watch",
             form: Form::Flag,
-            tie: Tie::None,
+            tie: Tie::Excludes("store"),
             help: "Prints them anew each second, with rates: as a screen on a terminal, otherwise as one line each",
+        },
+        ArgumentRow {
+            name: "store",
+            form: Form::Flag,
+            tie: Tie::Excludes("json"),
+            help: "Prints no figures: has the server store all writes that it has answered, and returns once a power cut keeps them",
         },
         VERBOSE,
     ],
@@ -399,7 +453,7 @@ static STATUS: SubcommandRow<'static> = SubcommandRow {
 static PIPE: SubcommandRow<'static> = SubcommandRow {
     name: "pipe",
     about: "Serves the transmission phase of one connection over standard input and output",
-    after_help: "Example: nbdj pipe d.img --cache writethrough <requests >replies\n\nA kill or a power cut keeps every write that a FLUSH, or a FUA reply, has confirmed.\n\nExit status: 0 the client has ended the session; 1 a fault of file, image, device, stream or memory; 2 a refused command line; 4 a file or a device in use.",
+    after_help: "Example: nbdj pipe d.img --cache writethrough <requests >replies\n\nA kill or a power cut keeps every write that a FLUSH, or a FUA reply, has confirmed. With --cache ordered a FLUSH does not make anything durable: answered writes may be lost, the last ones first.\n\nExit status: 0 the client has ended the session; 1 a fault of file, image, device, stream or memory; 2 a refused command line; 4 a file or a device in use.",
     usage: None,
     arguments: &[PATH, FRAMES, CACHE, VERBOSE],
 };
@@ -409,7 +463,7 @@ static RECOVER: SubcommandRow<'static> = SubcommandRow {
     about: "Recovers the device and prints the number of its last command",
     after_help: "Example: nbdj recover d.img\n\nThe journal is copied into the image and is empty then. A kill or a power cut loses nothing.\n\nExit status: 0 done; 1 a fault of file, image, device or memory; 2 a refused command line; 4 a file or a device in use.",
     usage: None,
-    arguments: &[PATH, JSON, VERBOSE],
+    arguments: &[PATH, JSON, WAIT_LOCK, VERBOSE],
 };
 
 static UPGRADE: SubcommandRow<'static> = SubcommandRow {
@@ -417,7 +471,7 @@ static UPGRADE: SubcommandRow<'static> = SubcommandRow {
     about: "Recovers the device, and gives it four journal areas in the place of two: layout 2",
     after_help: "Example: nbdj upgrade d.img\n\nThe image stays. A kill or a power cut loses nothing: it leaves the one layout or the other.\n\nExit status: 0 done; 1 a fault of file, image, device or memory, or an area below 4M; 2 a refused command line; 4 a file or a device in use.",
     usage: None,
-    arguments: &[PATH, VERBOSE],
+    arguments: &[PATH, WAIT_LOCK, VERBOSE],
 };
 
 static CHECK: SubcommandRow<'static> = SubcommandRow {

@@ -1,8 +1,8 @@
-ghost use Rattle.std.specs.Prelude.{◌≡◌, ◌≢◌, ◌≤◌, ◌<◌, ◌*◌, true, [], All, Some, IfOk, MatchOption, codes, map, option_map};
+ghost use Rattle.std.specs.Prelude.{◌≡◌, ◌≢◌, ◌≤◌, ◌<◌, ◌*◌, true, [], All, Some, IfOk, IfSome, MatchOption, codes, map, option_map};
 ghost use Rattle.clap.specs.Words.{first_of, found_of, rows_of, subcommand_of};
 ghost use Rattle.clap.specs.declared.builder.value_parser.ValueParser.{ValueParser};
 ghost use Rattle.command_line.specs.Commands.{nbdj_app};
-ghost use Rattle.command_line.specs.Line.{fault_name, layout_number, mode_name, HasPath, IsAsked, IsInvocation, IsGiven, IsGivenSeconds, SaysArea, SaysBlocks, SaysLayout, SaysReplaces, SaysScriptRuns, SaysFlag, SaysLimits, SaysStatusForm, SaysStatusSocket, SaysUnixMode, full_name, SaysAddresses, values_given};
+ghost use Rattle.command_line.specs.Line.{fault_name, layout_number, mode_name, HasPath, IsAsked, IsInvocation, IsGiven, IsGivenSeconds, IsGivenSize, SaysArea, SaysBlocks, SaysLayout, SaysReplaces, SaysScriptRuns, SaysFlag, SaysLimits, SaysName, SaysStatusForm, SaysStatusSocket, SaysUnixMode, full_name, SaysAddresses, values_given};
 ghost use Rattle.command_line.specs.Size.{IsSize};
 ghost use Rattle.front_end.specs.declared.plan.Address.TheVariants.{Tcp, Unix};
 ghost use Rattle.image_model.specs.declared.layout.Layout.TheVariants as Layout;
@@ -14,8 +14,9 @@ use clap::error::ErrorKind;
 use clap::{ArgMatches, Command, Error};
 use export_model::Mode;
 use front_end::{
-    Address, Course, FormatOptions, Invocation, Limits, OnFault, PipeOptions, Plan, Refusal,
-    ServeOptions, StatusForm, WhenFull,
+    Address, Course, FormatOptions, Invocation, LEAST_LOSS_BYTES, Limits, MOST_LOSS_BYTES,
+    MOST_NAME_BYTES, OnFault, PipeOptions, Plan, Refusal, ServeOptions, ServedName, StatusForm,
+    WhenFull,
 };
 use image_model::{BLOCK_BYTES, Geometry, LEAST_AREA_BYTES, Layout, MOST_AREA_BYTES, MOST_BLOCKS};
 use std::alloc::{AllocError, Global};
@@ -54,7 +55,12 @@ fn invocation<'a>(
 {
     let plan = asked(alloc, name, matches)?;
     let is_verbose = flag(matches, "verbose");
-    Ok(Invocation { plan, is_verbose })
+    let waits_for_lock = flag(matches, "wait-lock");
+    Ok(Invocation {
+        plan,
+        is_verbose,
+        waits_for_lock,
+    })
 }
 
 // The plan that a subcommand with these values asks for.
@@ -280,6 +286,7 @@ fn serve<'a>(alloc: Global, matches: &ArgMatches<'a>) -> Result<Plan<'a>, Error>
     let when_full = when_full(alloc, matches)?;
     let until_eof = flag(matches, "until-eof");
     let status = status_socket(alloc, matches)?;
+    let name = served_name(alloc, matches)?;
     match ServeOptions::new(
         frames, mode, workers, limits, on_fault, when_full, until_eof,
     ) {
@@ -287,6 +294,7 @@ fn serve<'a>(alloc: Global, matches: &ArgMatches<'a>) -> Result<Plan<'a>, Error>
             path,
             addresses,
             status,
+            name,
             options,
         }),
         None => Err(serve_fault(
@@ -310,6 +318,26 @@ fn status_socket<'a>(alloc: Global, matches: &ArgMatches<'a>) -> Result<Option<&
     }
 }
 
+// The name by which clients ask for the export.
+fn served_name<'a>(alloc: Global, matches: &ArgMatches<'a>) -> Result<ServedName<'a>, Error>
+    ensures { IfOk result (SaysName (rows_of (found_of matches.now))) }
+{
+    let text = match text(matches, "export-name") {
+        Some(text) => text,
+        None => "",
+    };
+    if text.len() > MOST_NAME_BYTES {
+        return Err(serve_fault(
+            alloc,
+            "invalid value for '--export-name <NAME>': it has more than 4075 bytes",
+        ));
+    }
+    Ok(ServedName {
+        text,
+        is_fresh: flag(matches, "fresh-name"),
+    })
+}
+
 fn status<'a>(alloc: Global, matches: &ArgMatches<'a>) -> Result<Plan<'a>, Error>
     ensures { IfOk result (IsAsked (Some (codes "status", rows_of (found_of matches.now)))) }
 {
@@ -320,15 +348,19 @@ fn status<'a>(alloc: Global, matches: &ArgMatches<'a>) -> Result<Plan<'a>, Error
     }
 }
 
-// How figures are printed, as at most one of two options says.
+// What is asked for, as at most one of three options says.
 fn status_form(alloc: Global, matches: &ArgMatches<'_>) -> Result<StatusForm, Error>
     ensures { IfOk result (SaysStatusForm (rows_of (found_of matches.now))) }
 {
-    match (flag(matches, "json"), flag(matches, "watch")) {
-        (false, false) => Ok(StatusForm::Lines),
-        (true, false) => Ok(StatusForm::Json),
-        (false, true) => Ok(StatusForm::Watch),
-        (true, true) => Err(fault(alloc, "one of --json and --watch at a time")),
+    let json = flag(matches, "json");
+    let watch = flag(matches, "watch");
+    let store = flag(matches, "store");
+    match (json, watch, store) {
+        (false, false, false) => Ok(StatusForm::Lines),
+        (true, false, false) => Ok(StatusForm::Json),
+        (false, true, false) => Ok(StatusForm::Watch),
+        (false, false, true) => Ok(StatusForm::Store),
+        _ => Err(fault(alloc, "one of --json, --watch and --store at a time")),
     }
 }
 
@@ -339,32 +371,65 @@ fn limits(alloc: Global, matches: &ArgMatches<'_>) -> Result<Limits, Error>
     let sessions = number(alloc, matches, "sessions")?;
     let handshake_seconds = number(alloc, matches, "handshake-timeout")?;
     let idle_seconds = number(alloc, matches, "idle-timeout")?;
-    let flush_millis = flush_millis(alloc, matches)?;
+    let flush_millis = millis(alloc, matches, "flush-interval")?;
+    let loss_bytes = loss_bytes(alloc, matches)?;
+    let loss_millis = millis(alloc, matches, "loss-seconds")?;
+    let device_millis = millis(alloc, matches, "device-timeout")?;
+    let check_millis = millis(alloc, matches, "lock-check")?;
     Ok(Limits {
         sessions,
         handshake_seconds,
         idle_seconds,
         flush_millis,
+        loss_bytes,
+        loss_millis,
+        device_millis,
+        check_millis,
     })
 }
 
 // A day.
 const MOST_MILLIS: u64 = 86_400_000;
 
-// After how long a write is stored.
-fn flush_millis(alloc: Global, matches: &ArgMatches<'_>) -> Result<u64, Error>
-    ensures { IfOk result (IsGivenSeconds (rows_of (found_of matches.now)) (codes "flush-interval")) }
+// The milliseconds that an option says in seconds.
+fn millis(alloc: Global, matches: &ArgMatches<'_>, name: &str) -> Result<u64, Error>
+    ensures { IfOk result (IsGivenSeconds (rows_of (found_of matches.now)) name.now) }
 {
-    if let Some(seconds) = text(matches, "flush-interval") {
+    if let Some(seconds) = text(matches, name) {
         if let Some(millis) = millis_of(seconds) {
             if millis <= MOST_MILLIS {
                 return Ok(millis);
             }
         }
     }
+    Err(no_seconds(alloc, name))
+}
+
+// The fault of a value that is no number of seconds up to a day.
+fn no_seconds(alloc: Global, name: &str) -> Error {
+    let message = format!(in alloc;
+        "invalid value for '--{name} <SECONDS>': it is 0 to 86400, with at most three digits behind a point"
+    );
+    match message {
+        Ok(message) => serve_fault(alloc, message.as_str()),
+        Err(error) => Error::from(error),
+    }
+}
+
+// How many bytes of answered writes a power cut may take.
+fn loss_bytes(alloc: Global, matches: &ArgMatches<'_>) -> Result<u64, Error>
+    ensures { IfOk result (IsGivenSize (rows_of (found_of matches.now)) (codes "loss-bytes")) }
+{
+    if let Some(size) = text(matches, "loss-bytes") {
+        if let Some(bytes) = bytes_of(size) {
+            if bytes >= LEAST_LOSS_BYTES && bytes <= MOST_LOSS_BYTES {
+                return Ok(bytes);
+            }
+        }
+    }
     Err(serve_fault(
         alloc,
-        "invalid value for '--flush-interval <SECONDS>': it is 0 to 86400, with at most three digits behind a point",
+        "invalid value for '--loss-bytes <BYTES>': it is 2M to 64M, a number of bytes or one with K or M behind it",
     ))
 }
 
@@ -467,7 +532,11 @@ fn mode(alloc: Global, matches: &ArgMatches<'_>) -> Result<Mode, Error>
     match text(matches, "cache") {
         Some("writeback") => Ok(Mode::Writeback),
         Some("writethrough") => Ok(Mode::Writethrough),
-        _ => Err(fault(alloc, "--cache: the mode is writeback or writethrough")),
+        Some("ordered") => Ok(Mode::Ordered),
+        _ => Err(fault(
+            alloc,
+            "--cache: the mode is writeback, writethrough or ordered",
+        )),
     }
 }
 

@@ -24,7 +24,7 @@ use Rattle.order_book.specs.declared.span.Span.{Span}
 use Rattle.request_core.specs.Reading.{IsKnownBy, IsReadOverServed, IsStatusServed}
 use Rattle.request_core.specs.Serving.{IsWriteServed, ready_for, served_after}
 use Rattle.request_core.specs.declared.serving.Served.{Served}
-use Rattle.export_model.specs.Log.{is_flush, is_write, is_write_type, waits_for_store}
+use Rattle.export_model.specs.Log.{flush_waits, is_flush, is_write, is_write_type, waits_for_store}
 use Rattle.export_model.specs.Shown.{shown_by}
 use Rattle.export_model.specs.Verdict.{allowed_flags, first_of_rules, is_known, range_verdict, verdict}
 use Rattle.export_model.specs.declared.action.Action.{Action}
@@ -165,7 +165,7 @@ module _ (request : Message) (geometry : Geometry) (flags : SessionFlags) where
     passed_fits passes (inl stopped) = failed passes request.head.cookie result stopped.2
     passed_fits passes (inr (inl flush)) =
         let none = three_else request.head.kind flush.1 in
-        subst (λ (r : Served). FitsServed geometry flags request r) (sym flush.3) (record { passes = passes; reads_none = none.0; tells_none = none.1 })
+        numbered passes (flush_waits kept) request.head.cookie old.mark result none.0 none.1 flush.3
     passed_fits passes (inr (inr (inl status))) = status_fits passes status.1 status.3
     passed_fits passes (inr (inr (inr write))) = write_fits (λ image. ShowsImage image old.cache) passes write.1 write.2 write.3 write.4
 

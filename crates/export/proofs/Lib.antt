@@ -1,4 +1,5 @@
 mod Begun
+mod Bounded
 mod Fits
 mod Found
 mod Given

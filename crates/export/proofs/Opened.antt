@@ -3,7 +3,7 @@ use Rattle.std.specs.Prelude.{Ok, Err}
 use Rattle.std.proofs.Common.{◌≡◌, List, ℕ, sym, subst}
 use Rattle.checkpoint.specs.Opening.{IsOpening}
 use Rattle.checkpoint.specs.declared.fault.KeeperFault.TheVariants.{NoMemory}
-use Rattle.checkpoint.specs.laws.FirstSync.{let_go}
+use Rattle.checkpoint.specs.laws.FirstSync.{starved}
 use Rattle.device_image.specs.Keeper.{KeeperState}
 use Rattle.disk_model.specs.Disk.{State}
 
@@ -12,8 +12,4 @@ module _ {D : Type 0} (before : State) (state : D → State) (keeper : KeeperSta
   pub handed_back : (disk : D) → disk ≡ keeper.disk → (found : List ℕ) → IsOpening before state (Ok keeper) found → IsOpening before state (Err (NoMemory, disk)) found
   handed_back disk is found opening =
       subst (λ (d : D). IsOpening before state (Err (NoMemory, d)) found) (sym is)
-      (record {
-        fixed = opening.fixed;
-        outcome = tt;
-        crash = let_go before state found keeper NoMemory opening.crash;
-      })
+      (starved before state found keeper opening)

@@ -10,7 +10,7 @@ use Rattle.export_model.specs.Log.{edit_asked}
 use Rattle.image_model.specs.Change.{Change}
 use Rattle.image_model.specs.Edit.{becomes}
 use Rattle.image_model.specs.Image.{Image, apply_all}
-use Rattle.marks.specs.laws.Beginnings.{prefix_of_append, prefix_self, prefix_trans}
+use Rattle.marks.specs.laws.Beginnings.{prefix_length, prefix_of_append, prefix_self, prefix_trans}
 use mathlib.Core.List.{IsPrefix}
 use Rattle.image_model.specs.declared.geometry.Geometry.{Geometry}
 use Rattle.marks.specs.Known.{PassState, known}
@@ -27,10 +27,10 @@ use Rattle.request_core.specs.Outcomes.{IsPassed, IsServedBy, IsServedHere}
 use Rattle.order_book.specs.Shown.{ShowsImage}
 use Rattle.order_book.specs.declared.span.Span.{Span}
 use Rattle.request_core.specs.Reading.{IsKnownBy, IsReadOverServed, IsStatusServed}
-use Rattle.request_core.specs.Serving.{IsAcceptedFor, IsPassServed, IsShownTo, IsWriteServed, ready_for, served_after}
+use Rattle.request_core.specs.Serving.{IsAcceptedFor, IsAnsweredFor, IsPassServed, IsShownTo, IsWriteServed, ready_for, served_after}
 use Rattle.request_core.specs.declared.serving.Served.{Served}
 use Rattle.request_core.specs.declared.serving.Served.TheVariants as served
-use Rattle.export_model.specs.Log.{is_flush, is_write, is_write_type, waits_for_store}
+use Rattle.export_model.specs.Log.{flush_waits, is_flush, is_write, is_write_type, waits_for_store}
 use Rattle.export_model.specs.Shown.{shown_by}
 use Rattle.export_model.specs.declared.action.Action.{Action}
 use Rattle.export_model.specs.declared.action.Action.TheVariants.{End, Serve}
@@ -52,6 +52,13 @@ shown_undone image head = by (head.kind == 0) _ _
     by true read runs is = cc
     by false read runs is = cc
 
+-- an answer that isn't Ok leaves the pass
+leaves : (opening number : ℕ) (answer : Answer) (pass next : PassState) → answer ≢ Done → IsAnsweredFor opening number answer pass next → next ≡ pass
+leaves opening number Done pass next undone is = absurd (undone refl)
+leaves opening number (Refused errno) pass next undone is = is
+leaves opening number (Bytes read) pass next undone is = is
+leaves opening number (States runs) pass next undone is = is
+
 no_less : (number : ℕ) → nat_lt number number ≡ false
 no_less number = grind (arith, nat_tests)
 
@@ -69,7 +76,7 @@ module _ (opening : ℕ) (first : Image) (Sure : Type 0 → Type 0) (request : M
   pub unanswered : (cookie : ℕ) (answer : Answer) (result : Served) → answer ≢ Done → next ≡ pass → result ≡ ready_for cookie answer → IsServedFor opening first Sure request kept pass next result
   unanswered cookie answer result undone left is =
       subst (λ (r : Served). IsServedFor opening first Sure request kept pass next r) (sym is)
-      (record { knew = subst (λ (p : PassState). IsPrefix pass.history p.history) (sym left) (prefix_self pass.history); written = λ done. absurd (undone done); flushed = λ done. absurd (undone done); covered = λ done. absurd (undone done); refused = λ errno is_errno other. left; own = inl (ap (λ (p : PassState). p.own) left); lasts = let same = ap (λ (p : PassState). p.durable) left in omega (arith, same) })
+      (record { knew = subst (λ (p : PassState). IsPrefix pass.history p.history) (sym left) (prefix_self pass.history); written = λ done. absurd (undone done); ordered = λ done. absurd (undone done); flushed = λ done. absurd (undone done); covered = λ done. absurd (undone done); refused = λ errno is_errno other. left; own = inl (ap (λ (p : PassState). p.own) left); lasts = let same = ap (λ (p : PassState). p.durable) left in omega (arith, same) })
 
 -- what a request comes to of a board that opened with this number
 module _ (opening : ℕ) (first : Image) (Sure : Type 0 → Type 0) (sure : (P Q : Type 0) → (P → Q) → Sure P → Sure Q) (request : Message) (kept : Mode) (pass next : PassState) where
@@ -79,7 +86,7 @@ module _ (opening : ℕ) (first : Image) (Sure : Type 0 → Type 0) (sure : (P Q
   quiet before after cookie answer result undone same is passed =
       let at : IsPassServed opening request before after (ready_for cookie answer) pass next = subst (λ (r : Served). IsPassServed opening request before after r pass next) is passed in
       let none : nat_lt before after ≡ false = ap (nat_lt before) same ∙ no_less before in
-      let left : next ≡ pass = subst (λ (b : Bool). MatchBool b (IsAcceptedFor opening request after pass next) (next ≡ pass)) none at in
+      let left : next ≡ pass = leaves opening after answer pass next undone (subst (λ (b : Bool). MatchBool b (IsAcceptedFor opening request after pass next) (IsAnsweredFor opening after answer pass next)) none at) in
       unanswered opening first Sure request kept pass next cookie answer result undone left is
 
   -- the same where the order is as it was
@@ -91,10 +98,26 @@ module _ (opening : ℕ) (first : Image) (Sure : Type 0 → Type 0) (sure : (P Q
       → MatchBool (is_flush request) (IsShownTo opening number pass next) (IsAcceptedFor opening request number pass next)
   waiting before after number result is passed = subst (λ (r : Served). IsPassServed opening request before after r pass next) is passed
 
-  flush_served : (before after number : ℕ) (result : Served) → is_flush request ≡ true → result ≡ served.Wait number → IsPassServed opening request before after result pass next
-      → IsServedFor opening first Sure request kept pass next result
-  flush_served before after number result flush is passed =
-      let at = subst (λ (b : Bool). MatchBool b (IsShownTo opening number pass next) (IsAcceptedFor opening request number pass next)) flush (waiting before after number result is passed) in
+  -- a FLUSH was shown all of the order, and waits for it or is answered at once
+  flush_served : (before after cookie : ℕ) (waits : Bool) (result : Served) → is_flush request ≡ true → flush_waits kept ≡ waits → after ≡ before → result ≡ served_after waits cookie before
+      → IsPassServed opening request before after result pass next → IsServedFor opening first Sure request kept pass next result
+  flush_served before after cookie false result flush waits same is passed =
+      let at : IsPassServed opening request before after (ready_for cookie Done) pass next = subst (λ (r : Served). IsPassServed opening request before after r pass next) is passed in
+      let none : nat_lt before after ≡ false = ap (nat_lt before) same ∙ no_less before in
+      let shown : IsShownTo opening after pass next = subst (λ (b : Bool). MatchBool b (IsAcceptedFor opening request after pass next) (IsShownTo opening after pass next)) none at in
+      subst (λ (r : Served). IsServedFor opening first Sure request kept pass next r) (sym is)
+      (record {
+        knew = shown.knew;
+        written = λ done write. absurd (true≢false (sym flush ∙ write_flushes_none request.head.kind write));
+        ordered = λ done flush. let most = shown.known_is in let place = shown.place in omega (arith, most, place);
+        flushed = λ done flush stored. absurd (true≢false (sym stored ∙ waits));
+        covered = λ done flush stored. absurd (true≢false (sym stored ∙ waits));
+        refused = λ errno is_errno. absurd (refused_undone errno (sym is_errno));
+        own = inl (ap (λ (p : PassState). p.own) shown.pass);
+        lasts = let durable = ap (λ (p : PassState). p.durable) shown.pass in omega (arith, durable);
+      })
+  flush_served before after cookie true result flush waits same is passed =
+      let at = subst (λ (b : Bool). MatchBool b (IsShownTo opening before pass next) (IsAcceptedFor opening request before pass next)) flush (waiting before after before result is passed) in
       subst (λ (r : Served). IsServedFor opening first Sure request kept pass next r) (sym is) (λ same. (at.known_is, ap (λ (p : PassState). p.own) at.pass, at.knew, at.place), λ other. absurd (true≢false (sym flush ∙ other)), let same = ap (λ (p : PassState). p.durable) at.pass in omega (arith, same))
 
   -- the history that the pass then knows, where a command was accepted over this one
@@ -125,11 +148,12 @@ module _ (opening : ℕ) (first : Image) (Sure : Type 0 → Type 0) (sure : (P Q
   numbered before after cookie result history over false waits other write grown is passed =
       let at : IsPassServed opening request before after (ready_for cookie Done) pass next = subst (λ (r : Served). IsPassServed opening request before after r pass next) is passed in
       let more : nat_lt before after ≡ true = ap (nat_lt before) grown ∙ less_next before in
-      let own = subst (λ (b : Bool). MatchBool b (IsAcceptedFor opening request after pass next) (next ≡ pass)) more at in
+      let own = subst (λ (b : Bool). MatchBool b (IsAcceptedFor opening request after pass next) (IsAnsweredFor opening after Done pass next)) more at in
       subst (λ (r : Served). IsServedFor opening first Sure request kept pass next r) (sym is)
       (record {
         knew = known_on opening first Sure request after pass next (own_of after history over own);
         written = λ done write. (after, own_of after history over own, λ stored. absurd (true≢false (sym stored ∙ waits)));
+        ordered = λ done flush. absurd (true≢false (sym flush ∙ other));
         flushed = λ done flush. absurd (true≢false (sym flush ∙ other));
         covered = λ done flush. absurd (true≢false (sym flush ∙ other));
         refused = λ errno is_errno. absurd (refused_undone errno (sym is_errno));
@@ -155,7 +179,7 @@ module _ (opening : ℕ) (first : Image) (Sure : Type 0 → Type 0) (sure : (P Q
 
     passed_for : (request.head.kind ≢ 0 → request.head.kind ≢ 7 → is_flush request ≡ false → is_write request ≡ true) → IsPassed request geometry kept old new result → IsServedFor opening first Sure request kept pass next result
     passed_for writes (inl stopped) = as_it_was old new request.head.cookie _ result (refused_undone Io) stopped.1 stopped.2 passed
-    passed_for writes (inr (inl flush)) = flush_served old.mark new.mark old.mark result flush.1 flush.3 passed
+    passed_for writes (inr (inl flush)) = flush_served old.mark new.mark request.head.cookie (flush_waits kept) result flush.1 refl (ap (λ (o : OrderState). o.mark) flush.2) flush.3 passed
     passed_for writes (inr (inr (inl status))) = status_served status.2 status.3
     passed_for writes (inr (inr (inr write))) = write_served (λ image. ShowsImage image old.cache) write.1 (writes write.2 write.3 write.1) write.4
 
@@ -228,8 +252,9 @@ module _ (opening : ℕ) (first : Image) (Sure : Type 0 → Type 0) (request : M
     knew = knew_by (is_flush request) refl;
     lasts = let first = served.2 in let rest = waited.lasts in omega (arith, first, rest);
     written = λ done write. (number, accepted (write_flushes_none request.head.kind write), λ stored. waited.done done);
-    flushed = λ done flush. let less = (served.0 flush).0 in let more = waited.done done in omega arith;
-    covered = λ done flush. record {
+    ordered = λ done flush. let (less, own, knew, place) = served.0 flush in let grown = prefix_length mid.history new.history waited.knew in omega (arith, less, place, grown);
+    flushed = λ done flush stored. let less = (served.0 flush).0 in let more = waited.done done in omega arith;
+    covered = λ done flush stored. record {
       covered = mid.history;
       knew = (served.0 flush).2;
       within = waited.knew;

@@ -29,6 +29,7 @@ module _ (opening : ℕ) (first : Image) (Sure : Type 0 → Type 0) (request : M
     knew = prefix_trans old.history mid.history new.history is.knew knew;
     lasts = let first = is.lasts in let same = ap (λ (p : PassState). p.durable) shown in omega (arith, first, same);
     written = λ done. absurd (undone done);
+    ordered = λ done. absurd (undone done);
     flushed = λ done. absurd (undone done);
     covered = λ done. absurd (undone done);
     refused = λ errno is_errno. absurd (answered errno is_errno);

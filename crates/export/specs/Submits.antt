@@ -10,7 +10,7 @@ use Rattle.nbd_wire.specs.declared.error.Errno.{Errno}
 use Rattle.nbd_wire.specs.declared.error.Errno.TheVariants.{Io, NoMemory, NoSpace}
 use Rattle.nbd_wire.specs.declared.message.Answer.{Answer}
 use Rattle.nbd_wire.specs.declared.message.Answer.TheVariants.{Done, Refused}
-use Rattle.export_model.specs.Log.{edit_asked, is_flush, is_write, waits_for_store}
+use Rattle.export_model.specs.Log.{edit_asked, flush_waits, is_flush, is_write, waits_for_store}
 use Rattle.export_model.specs.Shown.{shown_by}
 use Rattle.export_model.specs.declared.action.Action.{Action}
 use Rattle.export_model.specs.declared.action.Action.TheVariants.{End, Serve}
@@ -37,15 +37,16 @@ pub record IsCovered (opening : ℕ) (old new : PassState) : Type 0 where
   pub durable : opening + length covered ≤ new.durable
 
 -- A write command that is answered Ok has a number above all that its pass knew, and it is durable where the answer waits for that.
--- A FLUSH that is answered Ok: all that its pass knew before is durable, whichever connection's it was. An error other than EIO
--- leaves the pass as it was. Whatever the answer is, the pass has the commands that it had or the request's more, the history
+-- A FLUSH that is answered Ok: all that its pass knew before is ordered, and durable where a FLUSH waits, whichever connection's it
+-- was. An error other than EIO leaves the pass as it was. Whatever the answer is, the pass has the commands that it had or the request's more, the history
 -- that it knows then begins with the one that it knew, and all is durable still that it knew to be.
 pub record IsSubmitted (opening : ℕ) (first : Image) (Sure : Type 0 → Type 0) (request : Message) (kept : Mode) (old new : PassState) (answer : Answer) : Type 0 where
   pub knew : IsPrefix old.history new.history
   pub lasts : old.durable ≤ new.durable
   pub written : answer ≡ Done → is_write request ≡ true → (number : ℕ) × IsAccepted opening first Sure request number old new × (waits_for_store kept request ≡ true → number ≤ new.durable)
-  pub flushed : answer ≡ Done → is_flush request ≡ true → known old ≤ new.durable
-  pub covered : answer ≡ Done → is_flush request ≡ true → IsCovered opening old new
+  pub ordered : answer ≡ Done → is_flush request ≡ true → known old ≤ opening + length new.history
+  pub flushed : answer ≡ Done → is_flush request ≡ true → flush_waits kept ≡ true → known old ≤ new.durable
+  pub covered : answer ≡ Done → is_flush request ≡ true → flush_waits kept ≡ true → IsCovered opening old new
   pub refused : (errno : Errno) → answer ≡ Refused errno → errno ≢ Io → new ≡ old
   pub own : (new.own ≡ old.own) ⊎ ((is_write request ≡ true) × (number : ℕ) × IsAccepted opening first Sure request number old new)
 

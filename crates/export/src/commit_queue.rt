@@ -1,9 +1,10 @@
 //! What lies under the order's lock.
-ghost use Rattle.std.specs.Prelude.{ℕ, List, ◌≡◌, ◌≢◌, ◌+◌, ◌-◌, ◌*◌, ◌/◌, IfErr, IfOk, IfSome, IsErr, OnErr, length, max, slice_range, sum, vec_len};
+ghost use Rattle.std.specs.Prelude.{ℕ, List, ◌≡◌, ◌≢◌, ◌+◌, ◌-◌, ◌*◌, ◌/◌, ◌<◌, ◌≤◌, true, false, IfErr, IfOk, IfSome, IsErr, OnErr, length, max, slice_range, sum, vec_len};
 ghost use mathlib.Core.List.{IsPrefix};
 ghost use Rattle.disk_model.specs.Disk.{MayLeave};
 ghost use Rattle.export.specs.Noted.{base_of};
 ghost use Rattle.export.specs.inner.Submits.{FitsServed, IsServedFor, IsShownFor, serves_image};
+ghost use Rattle.export_model.specs.Log.{is_write};
 ghost use Rattle.image_model.specs.Edit.{blocks_met};
 ghost use Rattle.image_model.specs.Image.{apply_all};
 ghost use Rattle.order_book.specs.Order.{with_clean};
@@ -24,15 +25,20 @@ use crate::storage_engine::{JournalUse, StorageEngine};
 use crate::throttling::Throttle;
 use disk_model::Disk;
 use marks::{Board, Pass};
-use nbd_wire::{Answer, Request, RequestHead};
+use nbd_wire::{Answer, Request, RequestHead, TRIM, WRITE, WRITE_ZEROES};
 use order_book::{OrderFault, Span};
 use request_core::{Blocks, NeedsKeeper, Served, Terms, plan_read};
 use shared_store::{SealedGroup, SharedKeeper, SharedOrder};
 use std::alloc::Global;
-use std::time::Instant;
+use std::rt::Clock;
+use std::time::{Duration, Instant};
 
 /// Pending commands of more than so many bytes are stored though nobody waits for them.
 const MOST_PENDING_BYTES: u64 = 4_194_304;
+
+/// A write adds at most so many bytes to what is pending, and its data: the bytes round a command's data, and those of the two blocks
+/// that it may touch in part.
+const MOST_ADDED_BYTES: u64 = 8_206;
 
 /// A base that the order of an export has noted. Only the queue under the order's lock makes one, so each comes from a moment at which
 /// the order had noted it.
@@ -73,6 +79,8 @@ pub(crate) struct CommitQueue<B: ExportName> {
     // Whether memory has been refused for so long that nobody is to wait for the next group, or for a copy of the journal.
     cannot_store: bool,
     cannot_copy: bool,
+    // How many bytes of commands may be pending.
+    most_pending: u64,
     // How long what is pending may wait.
     interval: FlushInterval,
     // By how much clients that write are slowed down.
@@ -98,6 +106,7 @@ impl<B: ExportName> Drop for CommitQueue<B> {
             is_flushed: _,
             cannot_store: _,
             cannot_copy: _,
+            most_pending: _,
             interval: _,
             throttle: _,
             notes: _,
@@ -159,6 +168,7 @@ impl<B: ExportName> CommitQueue<B> {
             is_flushed: false,
             cannot_store: false,
             cannot_copy: false,
+            most_pending: u64::MAX,
             interval: FlushInterval::endless(),
             throttle: Throttle::new(),
             notes: Notes::new(journal),
@@ -182,7 +192,14 @@ impl<B: ExportName> CommitQueue<B> {
         ensures unchanged { OnErr result (pass.new ≡ pass.old) }
         ensures settled { self.new.settled ≡ self.old.settled }
         ensures tells { IfOk result (λ served. Trusting B.opening B.image B.vouches B.trusted (ServesImage (apply_all pass.new.history B.image) request.head served)) }
+
+        // Once a command was accepted, no more bytes are pending than may be, its own included.
+        ensures bounded { self.old.order.mark < self.new.order.mark → sum self.new.order.bodies ≤ self.old.most_pending }
+        ensures limit { self.new.most_pending ≡ self.old.most_pending }
     {
+        if self.exceeds_loss(&request) {
+            return Ok(Served::NoRoom(request));
+        }
         let served = self.order.serve(alloc, request, board, pass, terms)?;
         show(&mut self.order, board, pass, &served);
         Ok(served)
@@ -244,7 +261,7 @@ impl<B: ExportName> CommitQueue<B> {
         ensures unchanged { OnErr result ((self.new.order ≡ self.old.order) × (pass.new ≡ pass.old)) }
         ensures rest { (self.new.frames ≡ self.old.frames) × (self.new.passes ≡ self.old.passes) × (self.new.wanted ≡ self.old.wanted)
             × (self.new.waiters ≡ self.old.waiters) × (self.new.is_full ≡ self.old.is_full) × (self.new.lacks_room ≡ self.old.lacks_room)
-            × (self.new.wish ≡ self.old.wish) × (self.new.is_flushed ≡ self.old.is_flushed) × (self.new.cannot_store ≡ self.old.cannot_store) × (self.new.cannot_copy ≡ self.old.cannot_copy) × (self.new.interval ≡ self.old.interval)
+            × (self.new.wish ≡ self.old.wish) × (self.new.is_flushed ≡ self.old.is_flushed) × (self.new.cannot_store ≡ self.old.cannot_store) × (self.new.cannot_copy ≡ self.old.cannot_copy) × (self.new.most_pending ≡ self.old.most_pending) × (self.new.interval ≡ self.old.interval)
             × (self.new.throttle ≡ self.old.throttle) × (self.new.notes ≡ self.old.notes) }
     {
         if planned.settled.number != self.settled.number {
@@ -288,12 +305,56 @@ impl<B: ExportName> CommitQueue<B> {
         ensures count { keeper.new.keeper.count ≡ keeper.old.keeper.count }
         ensures settled { self.new.settled ≡ self.old.settled }
         ensures tells { Trusting B.opening B.image B.vouches B.trusted (ServesImage (apply_all pass.new.history B.image) request.head result) }
+        ensures bounded { self.old.order.mark < self.new.order.mark → sum self.new.order.bodies ≤ self.old.most_pending }
+        ensures limit { self.new.most_pending ≡ self.old.most_pending }
     {
+        if self.exceeds_loss(&request) {
+            return Served::NoRoom(request);
+        }
         let served = self
             .order
             .serve_with(alloc, request, keeper, board, pass, terms);
         show(&mut self.order, board, pass, &served);
         served
+    }
+
+    /// Whether a request asks for a write that could leave more bytes pending than may be. After a device fault there is no such.
+    pub(crate) fn exceeds_loss(&self, request: &Request) -> bool
+        ensures { result ≡ false → is_write request.now ≡ true → self.now.order.stopped ≡ false
+            → sum self.now.order.bodies + 8206 + length request.now.bytes ≤ self.now.most_pending }
+    {
+        let order = self.order.order();
+        if order.stopped() {
+            return false;
+        }
+        match request.head().kind {
+            WRITE | TRIM | WRITE_ZEROES => {}
+            _ => return false,
+        }
+        let most = request.bytes().len() as u64 + MOST_ADDED_BYTES;
+        if let Some(room) = self.most_pending.checked_sub(most) {
+            if order.backlog_bytes() <= room {
+                return false;
+            }
+        }
+        true
+    }
+
+    /// Has no command accepted from now on that could leave more than so many bytes pending.
+    pub(crate) fn limit_pending(&mut self, most: u64)
+        ensures settled { self.new.settled ≡ self.old.settled }
+        ensures order { self.new.order ≡ self.old.order }
+        ensures limit { self.new.most_pending ≡ most }
+    {
+        self.most_pending = most;
+    }
+
+    /// Whether the oldest pending command is older than this, as far as that is known.
+    pub(crate) fn is_older_than<R: Clock>(&self, rt: &R, limit: Duration) -> bool {
+        match self.notes.oldest() {
+            Some(oldest) => oldest.elapsed(rt).is_ok_and(|age| age > limit),
+            None => false,
+        }
     }
 
     /// Whether a call of the device has failed.
@@ -392,9 +453,9 @@ impl<B: ExportName> CommitQueue<B> {
         self.throttle.note(blocks, dirty, self.frames as u64)
     }
 
-    /// Whether so many bytes are pending that they are stored though nobody waits for them.
+    /// Whether so many bytes are pending that they are stored though nobody waits for them: half of what may be, at most.
     pub(crate) fn has_much_pending(&self) -> bool {
-        self.order.order().backlog_bytes() > MOST_PENDING_BYTES
+        self.order.order().backlog_bytes() > MOST_PENDING_BYTES.min(self.most_pending / 2)
     }
 
     /// What there is to do once a request was served: for the flusher, where much is pending or it counts the time

@@ -173,8 +173,8 @@ impl<B: ExportName, D: Disk, H: ReadBeside> Export<B, D, H> {
         self.signals.notify(false, wanted);
     }
 
-    // A call of the device has failed: commands are refused from now on.
-    pub(crate) fn fail<R: Wait>(&self, rt: &R) {
+    /// A call of the device has failed, by whichever handle: requests are refused from now on.
+    pub fn fail<R: Wait>(&self, rt: &R) {
         self.queue.lock(rt).stop();
         self.signals.notify_all();
     }

@@ -7,7 +7,7 @@ ghost use Rattle.disk_model.specs.Disk.{LeavesOnly};
 ghost use Rattle.export.specs.Left.{HasStored, LeavesHistory};
 ghost use Rattle.export.specs.Submits.{IsAccepted, IsSubmitted};
 ghost use Rattle.export.specs.Trusted.{IsTrusted};
-ghost use Rattle.export_model.specs.Log.{edit_asked, is_flush, is_write, waits_for_store};
+ghost use Rattle.export_model.specs.Log.{edit_asked, flush_waits, is_flush, is_write, waits_for_store};
 ghost use Rattle.export_model.specs.declared.step.Mode.{Mode};
 ghost use Rattle.image_model.specs.Change.{Change};
 ghost use Rattle.image_model.specs.Edit.{becomes};
@@ -37,10 +37,11 @@ pub fn opened_device_law<D: Disk>()
 /// What an answer means for the device. Let the history that a pass knew once it had the answer begin another one, as it does where the
 /// export ends with a pass that it has joined, and let a content stand for the image after a beginning of that which has all that the
 /// pass knew to be durable, as whatever a crash leaves of the device that is handed back. Then that beginning has all that the pass
-/// knew before a FLUSH that was answered Ok, and the command of a write that was answered Ok and had to be stored first.
+/// knew before a FLUSH that was answered Ok in a mode in which a FLUSH waits, and the command of a write that was answered Ok and had to be stored first.
 pub fn answer_law<B: ExportName>()
     ensures flushed { (request : Message) (kept : Mode) (old new : PassState) (answer : Answer) (history : List Change) (least : ℕ) (content : List ℕ)
         → IsSubmitted B.opening B.image (Trusting B.opening B.image B.vouches B.trusted) request kept old new answer → answer ≡ Answer.Done → is_flush request ≡ true
+        → flush_waits kept ≡ true
         → IsPrefix new.history history → new.durable ≤ least → StandsWithin B.opening B.image history least content
         → HasStored B.opening B.image history old.history content }
     ensures forced { (request : Message) (kept : Mode) (old new : PassState) (answer : Answer) (history : List Change) (least : ℕ) (content : List ℕ)

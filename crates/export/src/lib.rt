@@ -12,6 +12,7 @@ mod figures;
 mod flushing;
 mod gathering;
 mod laws;
+mod loss;
 mod name;
 mod retired;
 mod settling;

@@ -1,10 +1,14 @@
 //! What is stored though nobody waits for it: at the end of a session, and once it has been pending for a while.
+ghost use Rattle.std.specs.Prelude.{◌≡◌, ◌≤◌, IfSome};
+ghost use mathlib.Core.List.{IsPrefix};
 ghost use Rattle.export.specs.Submits.{IsSettled};
+ghost use Rattle.marks.specs.Known.{known};
 
 use crate::beside::ReadBeside;
 use crate::commit_queue::CommitQueue;
 use crate::export::Export;
 use crate::name::ExportName;
+use crate::retired::RetiredPass;
 use disk_model::Disk;
 use marks::Pass;
 use nbd_wire::Answer;
@@ -67,6 +71,20 @@ impl<B: ExportName, D: Disk, H: ReadBeside> Export<B, D, H> {
     {
         let accepted = self.board.look_accepted(pass);
         self.wait_for(rt, pass, accepted)
+    }
+
+    /// Has all that is accepted by now stored, and waits until it is; the number of the last of it. None if it never will be.
+    pub fn store_accepted<R: Wait>(&self, rt: &R, pass: &mut RetiredPass<B>) -> Option<u64>
+        ensures stored { IfSome result (λ number. (known pass.old ≤ number) × (number ≤ pass.new.durable)) }
+        ensures knew { IsPrefix pass.old.history pass.new.history }
+        ensures lasts { pass.old.durable ≤ pass.new.durable }
+        ensures own { pass.new.own ≡ pass.old.own }
+    {
+        let accepted = self.board.look_accepted(&mut pass.pass);
+        match self.wait_for(rt, &mut pass.pass, accepted) {
+            Answer::Done => Some(accepted),
+            _answer => None,
+        }
     }
 
     // Waits for the flusher's next work, which comes to be where what is pending has waited for long enough.

@@ -179,6 +179,11 @@ impl<B: ExportName, D: Disk, H: ReadBeside> Export<B, D, H> {
             Served::NoRoom(back) if queue.cannot_make_room() => {
                 return refuse(back, &terms, Errno::NoMemory);
             }
+            Served::NoRoom(back) if queue.exceeds_loss(back) => {
+                queue.want_pending();
+                self.signals.notify(true, false);
+                let _woken = self.signals.settled.wait(rt, queue);
+            }
             Served::NoRoom(_) => {
                 queue.miss_room();
                 self.signals.notify(true, true);

@@ -18,9 +18,9 @@ use Rattle.nbd_wire.specs.declared.message.Answer.TheVariants.{Done, Refused}
 use Rattle.export_model.specs.declared.step.Step.{Step}
 use Rattle.export_model.specs.declared.step.Step.TheVariants as steps
 use Rattle.export_model.specs.Covered.{Covers, IsCovered}
-use Rattle.export_model.specs.Log.{edit_asked, is_flush}
+use Rattle.export_model.specs.Log.{edit_asked, flush_waits, is_flush}
 use Rattle.export_model.specs.Run.{IsReached, IsRun, Fresh, After}
-use Rattle.export_model.specs.Serve.{Failure, Nothing, OutOfMemory, DeviceFailure, logged, held, moved, ready, ordered, accepted, passed, judged, serve, answer, staged, faulted, Misread, image_shown, shown, read_served, status_served, takes_old_bytes}
+use Rattle.export_model.specs.Serve.{Failure, Nothing, OutOfMemory, DeviceFailure, logged, held, moved, ready, ordered, accepted, passed, judged, serve, answer, staged, faulted, Misread, image_shown, shown, read_served, state_after, status_served, takes_old_bytes}
 use Rattle.export_model.specs.Checkpoint.{can_rotate, can_copy, can_map, can_finish, can_clean, is_full, finished}
 use Rattle.export_model.specs.Step.{sent, send, sealed_more, put_back, written, append, publish, in_time, with_generation, without_memory, after_step}
 use Rattle.export_model.specs.Verdict.{verdict}
@@ -128,7 +128,7 @@ module _ (world : World) where
 
     grows_passed : (failure : Failure) (request : Message) → Grows world (passed failure world c request)
     grows_passed failure request = of_either (Grows world) world.stage.stopped _ _ (λ stopped. grows_moved (Ready (Refused Io)) Took)
-        (λ works. of_either (Grows world) (is_flush request) _ _ (λ flush. grows_moved (Waiting (last_number world)) Took)
+        (λ works. of_either (Grows world) (is_flush request) _ _ (λ flush. grows_moved (state_after (flush_waits world.stage.setting.mode) (last_number world)) Took)
         (λ other. of_either (Grows world) (request.head.kind == 0) _ _ (λ read. grows_read failure request)
         (λ no_read. of_either (Grows world) (request.head.kind == 7) _ _ (λ status. grows_status failure request)
         (λ no_status. of_either (Grows world) (last_number world == 18446744073709551615) _ _ (λ full. grows_moved (Ready (Refused NoSpace)) Took)

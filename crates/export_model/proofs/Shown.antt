@@ -1,7 +1,7 @@
 -- the answers that show an image fit the order
 use Rattle.std.proofs.Common.{◌≡◌, ◌≢◌, ◌⊎◌, inl, inr, ℕ, ◌+◌, ◌-◌, ◌<◌, ◌≤◌, ◌==◌, ◌&&◌, Bool, true, false, if◌then◌else◌, nat_le, nat_lt, Result, Ok, Err, List, [], ◌∷◌, ◌++◌, length, length-append, sym, ◌∙◌, ap, subst, refl, arith}
 use Rattle.std.proofs.lemmas.Option.{slice_get_within}
-use Rattle.std.proofs.lemmas.Bool.{both_ways, cases_eq, eqb-true, or_from}
+use Rattle.std.proofs.lemmas.Bool.{both_ways, cases_eq, eqb-true, false_from_ne_true, or_from}
 use Rattle.std.proofs.lemmas.List.{take-append-le}
 use Rattle.image_model.specs.Bodies.{bodies_bytes}
 use Rattle.image_model.specs.Change.{Change}
@@ -24,7 +24,7 @@ use Rattle.export_model.specs.declared.step.Step.{Step}
 use Rattle.export_model.specs.declared.step.Step.TheVariants as steps
 use Rattle.export_model.specs.Checkpoint.{can_rotate, can_copy, can_map, can_finish, can_clean, is_full, finished, rotated}
 use Rattle.export_model.specs.Fits.{IsShown, ReadsFit}
-use Rattle.export_model.specs.Log.{StandsAt, IsAnswered, edit_asked, is_flush, is_read, is_read_type, waits_for_store}
+use Rattle.export_model.specs.Log.{StandsAt, IsAnswered, edit_asked, flush_waits, is_flush, is_read, is_read_type, waits_for_store}
 use Rattle.export_model.specs.Run.{IsReached, Fresh, After}
 use Rattle.export_model.specs.Serve.{Failure, Nothing, OutOfMemory, DeviceFailure, Misread, accepted, answer, answered, faulted, held, image_shown, judged, logged, moved, ordered, passed, read_served, ready, serve, shown, state_after, status_served, write_served, takes_old_bytes}
 use Rattle.export_model.specs.Shown.{shown_by}
@@ -448,12 +448,15 @@ module _ (world : World) (c : ℕ) (sound : IsSound world) (fit : Fits world) wh
         (λ no_bytes. of_either Fits (request.head.kind == 7) (status_served failure world c request) (write_served failure (image_shown failure world.stage) world c request) (λ status. fit_status failure)
         (λ no_status. fit_write failure (image_shown failure world.stage) (or_from (request.head.kind == 0) (request.head.kind == 7) no_bytes no_status)))
 
+    abbrev flushed_state : Connection
+    flushed_state = state_after (flush_waits world.stage.setting.mode) (last_number world)
+
     abbrev flushed : World
-    flushed = logged (moved world c (Waiting (last_number world))) Took
+    flushed = logged (moved world c flushed_state) Took
 
     fit_flushed : is_flush request ≡ true → Fits flushed
-    fit_flushed flush = fit_quiet (moved world c (Waiting (last_number world))) Took quiet_took
-        (fit_moved world c (Waiting (last_number world)) fit (λ asked at read. flush_no_read request flush (subst (λ (r : Message). is_read r ≡ true) (asked_own asked at) read)))
+    fit_flushed flush = fit_quiet (moved world c flushed_state) Took quiet_took
+        (fit_moved world c flushed_state fit (due_after (facts world) (flush_waits world.stage.setting.mode) (last_number world) refl (false_from_ne_true (is_read request) (flush_no_read request flush))))
 
     fit_passed : (failure : Failure) → Fits (passed failure world c request)
     fit_passed failure = of_either Fits world.stage.stopped (ready world c (Refused Io)) (if is_flush request then flushed else asked failure) (λ stopped. fit_ready Io)

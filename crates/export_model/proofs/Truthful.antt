@@ -21,7 +21,7 @@ use Rattle.nbd_wire.specs.declared.message.Answer.TheVariants.{Done, Refused}
 use Rattle.export_model.specs.declared.event.StepFault.TheVariants as fault
 use Rattle.export_model.specs.declared.step.Step.{Step}
 use Rattle.export_model.specs.declared.step.Step.TheVariants as steps
-use Rattle.export_model.specs.Log.{StandsAt, edit_asked, is_flush}
+use Rattle.export_model.specs.Log.{StandsAt, edit_asked, flush_waits, is_flush}
 use Rattle.export_model.specs.Run.{IsReached, Fresh, After}
 use Rattle.export_model.specs.Serve.{Failure, Nothing, OutOfMemory, DeviceFailure, logged, held, moved, ready, ordered, state_after, accepted, passed, judged, serve, answered, answer, staged, faulted, Misread, image_shown, shown, read_served, status_served, takes_old_bytes}
 use Rattle.export_model.specs.Checkpoint.{can_rotate, can_copy, can_map, can_finish, can_clean, is_full, rotated, finished}
@@ -259,7 +259,8 @@ module _ (world : World) (true_so_far : IsTruthful world) where
 
     calm_passed : (failure : Failure) (request : Message) → IsTruthful (passed failure world c request)
     calm_passed failure request = of_either IsTruthful world.stage.stopped _ _ (λ stopped. calm_ready Io (λ is. stopped))
-        (λ works. of_either IsTruthful (is_flush request) _ _ (λ flush. calm_moved (Waiting (last_number world)) Took tt (λ is. cc))
+        (λ works. of_either IsTruthful (is_flush request) _ _ (λ flush. calm_moved (state_after (flush_waits world.stage.setting.mode) (last_number world)) Took tt
+        (λ is. absurd (after_unlike (flush_waits world.stage.setting.mode) (last_number world) is)))
         (λ other. of_either IsTruthful (request.head.kind == 0) _ _ (λ read. calm_read failure request)
         (λ no_read. of_either IsTruthful (request.head.kind == 7) _ _ (λ status. calm_status failure request)
         (λ no_status. of_either IsTruthful (last_number world == 18446744073709551615) _ _ (λ full. calm_ready NoSpace (λ is. absurd (space_unlike is)))

@@ -13,7 +13,7 @@ use Rattle.export_model.specs.declared.step.Step.TheVariants as steps
 use Rattle.image_model.specs.Bodies.{bodies_bytes}
 use Rattle.image_model.specs.Change.{Change}
 use Rattle.image_model.specs.Edit.{becomes}
-use Rattle.export_model.specs.Log.{edit_asked, is_flush, waits_for_store}
+use Rattle.export_model.specs.Log.{edit_asked, flush_waits, is_flush, waits_for_store}
 use Rattle.export_model.specs.Run.{IsReached, Fresh, After}
 use Rattle.export_model.specs.Serve.{Failure, Nothing, OutOfMemory, DeviceFailure, accepted, answer, judged, passed, serve, state_after, Misread, image_shown, shown, read_served, status_served, takes_old_bytes}
 use Rattle.export_model.specs.Checkpoint.{can_rotate, can_copy, can_map, can_finish, can_clean, is_full, rotated, finished}
@@ -99,7 +99,7 @@ module _ (world : World) (all : AllWait world) where
 
   wait_passed : (failure : Failure) (c : ℕ) (request : Message) → AllWait (passed failure world c request)
   wait_passed failure c request = of_either AllWait world.stage.stopped _ _ (λ stopped. wait_moved c (Ready (Refused Io)) tt)
-      (λ works. of_either AllWait (is_flush request) _ _ (λ flush. wait_moved c (Waiting (last_number world)) (omega arith))
+      (λ works. of_either AllWait (is_flush request) _ _ (λ flush. wait_moved c (state_after (flush_waits world.stage.setting.mode) (last_number world)) (state_within (flush_waits world.stage.setting.mode) (last_number world) (last_number world) (omega arith)))
       (λ other. of_either AllWait (request.head.kind == 0) _ _ (λ read. wait_read failure c request)
       (λ no_read. of_either AllWait (request.head.kind == 7) _ _ (λ status. wait_status failure c request)
       (λ no_status. of_either AllWait (last_number world == 18446744073709551615) _ _ (λ full. wait_moved c (Ready (Refused NoSpace)) tt)

@@ -4,7 +4,7 @@ use Rattle.nbd_wire.specs.Request.{Message}
 use Rattle.export_model.specs.declared.event.Event.{Event}
 use Rattle.nbd_wire.specs.declared.message.Answer.TheVariants.{Done}
 use Rattle.export_model.specs.declared.step.Mode.{Mode}
-use Rattle.export_model.specs.Log.{IsAnswered, is_write, is_flush, waits_for_store}
+use Rattle.export_model.specs.Log.{IsAnswered, is_write, is_flush, flush_waits, waits_for_store}
 use Rattle.export_model.specs.World.{World}
 
 -- a write command that was sent at the place and is answered Ok
@@ -15,9 +15,11 @@ pub record IsConfirmed (log : List Event) (place : ℕ) : Type 0 where
   pub write : is_write request ≡ true
   pub answered : IsAnswered log connection place request answer Done
 
--- It was answered before a FLUSH was sent that is answered Ok, on its own or on another connection.
-pub record IsFlushed (log : List Event) (place : ℕ) : Type 0 where
+-- It was answered before a FLUSH was sent that is answered Ok, on its own or on another connection, and the mode is one in which a
+-- FLUSH waits.
+pub record IsFlushed (mode : Mode) (log : List Event) (place : ℕ) : Type 0 where
   pub confirmed : IsConfirmed log place
+  pub waits : flush_waits mode ≡ true
   pub connection : ℕ
   pub from : ℕ
   pub request : Message
@@ -26,13 +28,14 @@ pub record IsFlushed (log : List Event) (place : ℕ) : Type 0 where
   pub later : confirmed.answer < from
   pub answered : IsAnswered log connection from request answer Done
 
--- It has FUA, or the mode is writethrough.
+-- It has FUA and the mode is writeback, or the mode is writethrough.
 pub record IsForced (mode : Mode) (log : List Event) (place : ℕ) : Type 0 where
   pub confirmed : IsConfirmed log place
   pub waits : waits_for_store mode confirmed.request ≡ true
 
+-- In ordered it is neither, whatever the log.
 abbrev pub IsCovered : Mode → List Event → ℕ → Type 0
-IsCovered mode log place = IsFlushed log place ⊎ IsForced mode log place
+IsCovered mode log place = IsFlushed mode log place ⊎ IsForced mode log place
 
 -- each covered command is among the first `count` of the order
 abbrev pub Covers : World → ℕ → Type 0

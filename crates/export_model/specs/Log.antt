@@ -1,6 +1,6 @@
 -- What the log of a run must be. A request is known by the place in the log where it was sent; what was sent and what was
 -- answered, read in the log's order, is the transcript.
-use Rattle.std.specs.Prelude.{◌≡◌, ◌≢◌, ℕ, ◌<◌, ◌==◌, ◌&&◌, ◌||◌, if◌then◌else◌, Bool, true, Some, List, length, slice_get, bit_and}
+use Rattle.std.specs.Prelude.{◌≡◌, ◌≢◌, ℕ, ◌<◌, ◌==◌, ◌&&◌, ◌||◌, if◌then◌else◌, Bool, true, false, Some, List, length, slice_get, bit_and}
 use Rattle.image_model.specs.Change.{Change}
 use Rattle.image_model.specs.Edit.{ByteEdit, BytesPut, BytesTrimmed, BytesZeroed, becomes}
 use Rattle.image_model.specs.Image.{Image}
@@ -15,7 +15,7 @@ use Rattle.export_model.specs.declared.event.Event.TheVariants.{Sent, Answered}
 use Rattle.nbd_wire.specs.declared.message.Answer.{Answer}
 use Rattle.nbd_wire.specs.declared.message.Answer.TheVariants.{Done, Refused}
 use Rattle.export_model.specs.declared.step.Mode.{Mode}
-use Rattle.export_model.specs.declared.step.Mode.TheVariants.{Writeback, Writethrough}
+use Rattle.export_model.specs.declared.step.Mode.TheVariants.{Writeback, Writethrough, Ordered}
 
 -- the event at this place of the log
 abbrev pub StandsAt : List Event → ℕ → Event → Type 0
@@ -56,10 +56,17 @@ is_read request = is_read_type request.head.kind
 abbrev pub is_flush : Message → Bool
 is_flush request = request.head.kind == 3
 
--- whether the answer to a write command waits until it is durable: with FUA, and always in writethrough
+-- whether the answer to a write command waits until it is durable: with FUA, and always in writethrough; never in ordered
 abbrev pub waits_for_store : Mode → Message → Bool
 waits_for_store Writethrough request = true
 waits_for_store Writeback request = bit_and request.head.flags 1 == 1
+waits_for_store Ordered request = false
+
+-- whether the answer to a FLUSH waits until what it covers is durable: not in ordered, where a FLUSH makes nothing durable
+abbrev pub flush_waits : Mode → Bool
+flush_waits Writeback = true
+flush_waits Writethrough = true
+flush_waits Ordered = false
 
 -- the request whose command has a place in the order: what its edit becomes over some image
 pub record IsPaired (log : List Event) (command : Change) (place : ℕ) : Type 0 where

@@ -15,7 +15,7 @@ use Rattle.export_model.specs.declared.event.Event.{Event}
 use Rattle.export_model.specs.declared.event.Event.TheVariants.{Answered, Numbered, Took, Held}
 use Rattle.nbd_wire.specs.declared.message.Answer.{Answer}
 use Rattle.nbd_wire.specs.declared.message.Answer.TheVariants.{Done, Refused}
-use Rattle.export_model.specs.Log.{edit_asked, is_flush, waits_for_store}
+use Rattle.export_model.specs.Log.{edit_asked, flush_waits, is_flush, waits_for_store}
 use Rattle.export_model.specs.Verdict.{verdict}
 use Rattle.export_model.specs.Shown.{shown_by}
 use Rattle.export_model.specs.World.{World, Stage, put, last_number, has_room, image_after}
@@ -56,7 +56,7 @@ ordered world connection command = record world {
   paired = put world.paired (length world.stage.order) (world.places connection);
 }
 
--- what a write command waits for, once it has this number
+-- what a request is at that waits for this number, or is answered at once
 abbrev pub state_after : Bool → ℕ → Connection
 state_after true number = Waiting number
 state_after false number = Ready Done
@@ -121,12 +121,12 @@ abbrev pub status_served : Failure → World → ℕ → Message → World
 status_served OutOfMemory world connection request = ready world connection (Refused NoMemory)
 status_served failure world connection request = shown (image_shown failure world.stage) world connection request
 
--- a request that passes judgement: EIO after a device fault, a FLUSH waits for the last number, a READ and a BLOCK_STATUS show the
+-- a request that passes judgement: EIO after a device fault, a FLUSH waits for the last number where it waits, a READ and a BLOCK_STATUS show the
 -- image
 abbrev pub passed : Failure → World → ℕ → Message → World
 passed failure world connection request =
     if world.stage.stopped then ready world connection (Refused Io)
-    else (if is_flush request then logged (moved world connection (Waiting (last_number world))) Took
+    else (if is_flush request then logged (moved world connection (state_after (flush_waits world.stage.setting.mode) (last_number world))) Took
     else (if request.head.kind == 0 then read_served failure world connection request
     else (if request.head.kind == 7 then status_served failure world connection request
     else write_served failure (image_shown failure world.stage) world connection request)))

@@ -27,11 +27,14 @@ pub enum Step {
     Clean,
 }
 
-/// When a write command without FUA is answered.
+/// When a write command without FUA and a FLUSH are answered.
 #[derive(Clone, Copy, PartialEq, Eq)]
 pub enum Mode {
-    /// Once it has its place in the order.
+    /// A write command once it has its place in the order, a FLUSH once all that it covers is stored.
     Writeback,
-    /// Once it and all before it are stored, as one with FUA.
+    /// A write command once it and all before it are stored, as one with FUA, and a FLUSH as in writeback.
     Writethrough,
+    /// A FLUSH makes nothing durable: it is answered once all that it covers has its place in the order, which is at once, and a
+    /// write command, with FUA too, once it has its own.
+    Ordered,
 }

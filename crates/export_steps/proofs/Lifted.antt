@@ -13,7 +13,7 @@ use Rattle.nbd_wire.specs.Request.{Message}
 use Rattle.nbd_wire.specs.declared.error.Errno.{Errno}
 use Rattle.nbd_wire.specs.declared.error.Errno.TheVariants as errno
 use Rattle.nbd_wire.specs.declared.error.Errno.TheVariants.{Io}
-use Rattle.nbd_wire.specs.declared.message.Answer.TheVariants.{Refused}
+use Rattle.nbd_wire.specs.declared.message.Answer.TheVariants.{Done, Refused}
 use Rattle.order_book.specs.Order.{OrderState, has_room_for}
 use Rattle.export_steps.specs.Parts.{IsOrderOf, Shows}
 use Rattle.request_core.specs.Serving.{IsMore, IsWriteServed, ready_for, served_after}
@@ -23,8 +23,8 @@ use Rattle.request_core.specs.Reading.{IsStatusServed}
 use Rattle.request_core.specs.declared.serving.Served.{Served}
 use Rattle.request_core.specs.declared.serving.Served.TheVariants as served
 use Rattle.export_steps.proofs.Serves.{grown_same, if_false, if_true, served_accepted, served_held, served_moved, served_numbered, served_quiet, write_accepted, write_full, write_held}
-use Rattle.export_model.specs.Log.{edit_asked, is_flush, waits_for_store}
-use Rattle.export_model.specs.Serve.{Failure, Misread, Nothing, OutOfMemory, accepted, held, image_shown, logged, moved, numbered as got_number, passed, ready, shown, status_served, write_served}
+use Rattle.export_model.specs.Log.{edit_asked, flush_waits, is_flush, waits_for_store}
+use Rattle.export_model.specs.Serve.{Failure, Misread, Nothing, OutOfMemory, accepted, held, image_shown, logged, moved, numbered as got_number, passed, ready, shown, state_after, status_served, write_served}
 use Rattle.export_model.specs.Shown.{shown_by}
 use Rattle.export_model.specs.World.{World, image_after, last_number}
 use Rattle.export_model.specs.declared.connection.Connection.TheVariants.{Requested, Waiting, Ready}
@@ -49,10 +49,16 @@ module _ (world : World) (c : ℕ) (request : Message) (old : OrderState) (group
       refused_served errno same is = served_quiet world c request old group of (ready world c (Refused errno)) result (ready_for request.head.cookie (Refused errno)) new same is
           (served_moved world c request old group of (Ready (Refused errno)) Took)
 
-  flush_waits : new ≡ old → result ≡ served.Wait old.mark → Comes (logged (moved world c (Waiting (last_number world))) Took)
-  flush_waits same is = subst (λ (n : ℕ). Comes (logged (moved world c (Waiting n)) Took)) of.mark (
+  -- a FLUSH waits for the last number, or is answered at once
+  flush_served : (waits : Bool) → new ≡ old → result ≡ served_after waits request.head.cookie old.mark → Comes (logged (moved world c (state_after waits (last_number world))) Took)
+  flush_served true same is = subst (λ (n : ℕ). Comes (logged (moved world c (Waiting n)) Took)) of.mark (
     served_quiet world c request old group of (logged (moved world c (Waiting old.mark)) Took) result (served.Wait old.mark) new same is
         (served_moved world c request old group of (Waiting old.mark) Took),
+    still same,
+  )
+  flush_served false same is = (
+    served_quiet world c request old group of (logged (moved world c (Ready Done)) Took) result (ready_for request.head.cookie Done) new same is
+        (served_moved world c request old group of (Ready Done) Took),
     still same,
   )
 
@@ -165,7 +171,7 @@ module _ (world : World) (c : ℕ) (request : Message) (old : OrderState) (group
     passes (inl (stopped, same, is)) = (Nothing, if_true Comes world.stage.stopped _ _ (sym of.stopped ∙ stopped) (refused_so Io same is))
     passes (inr (inl (works, flush, same, is))) = (
       Nothing,
-      if_false Comes world.stage.stopped _ _ (sym of.stopped ∙ works) (if_true Comes (is_flush request) _ _ flush (flush_waits same is)),
+      if_false Comes world.stage.stopped _ _ (sym of.stopped ∙ works) (if_true Comes (is_flush request) _ _ flush (flush_served (flush_waits world.stage.setting.mode) same is)),
     )
     passes (inr (inr (inl (works, kind, same, by)))) =
         let told = status sure same by in (

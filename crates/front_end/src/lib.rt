@@ -10,11 +10,11 @@ mod plan;
 mod refusal;
 
 /// The version of the program.
-pub const VERSION: &str = "1.1.0";
+pub const VERSION: &str = "1.2.0";
 
 pub use format_options::FormatOptions;
-pub use limits::{LEAST_FRAMES, MOST_FRAMES};
+pub use limits::{LEAST_FRAMES, LEAST_LOSS_BYTES, MOST_FRAMES, MOST_LOSS_BYTES};
 pub use options::{Limits, MOST_WORKERS, OnFault, ServeOptions, WhenFull};
 pub use pipe_options::PipeOptions;
-pub use plan::{Address, Course, Invocation, Plan, StatusForm};
+pub use plan::{Address, Course, Invocation, MOST_NAME_BYTES, Plan, ServedName, StatusForm};
 pub use refusal::Refusal;

@@ -1,6 +1,6 @@
-ghost use Rattle.std.specs.Prelude.{◌≡◌, ◌<◌, ◌≤◌, MatchOption};
+ghost use Rattle.std.specs.Prelude.{◌≡◌, ◌<◌, ◌≤◌, ◌↔◌, IsTrue, MatchOption};
 
-use crate::limits::{LEAST_FRAMES, MOST_FRAMES};
+use crate::limits::{LEAST_FRAMES, LEAST_LOSS_BYTES, MOST_FRAMES, MOST_LOSS_BYTES};
 use export_model::Mode;
 use std::time::Duration;
 
@@ -36,6 +36,14 @@ pub struct Limits {
     pub idle_seconds: u64,
     /// After so many milliseconds what is pending is stored, though nobody waits for it; 0 for no end.
     pub flush_millis: u64,
+    /// So many bytes of commands are pending at most: 2,097,152 to 67,108,864.
+    pub loss_bytes: u64,
+    /// A write waits while a command is pending for longer than so many milliseconds; 0 for no end.
+    pub loss_millis: u64,
+    /// A call of the device that takes longer than so many milliseconds ends the server; 0 for no end.
+    pub device_millis: u64,
+    /// Every so many milliseconds the lock is taken again and the device synced; 0 for never.
+    pub check_millis: u64,
 }
 
 impl Limits {
@@ -51,11 +59,38 @@ impl Limits {
 
     /// How long what is pending may wait; none for no end.
     pub fn pending(&self) -> Option<Duration> {
-        if self.flush_millis == 0 {
-            return None;
-        }
-        Some(Duration::from_millis(self.flush_millis))
+        millis(self.flush_millis)
     }
+
+    /// How old a pending command may be when a write is accepted; none for no end.
+    pub fn loss_age(&self) -> Option<Duration> {
+        millis(self.loss_millis)
+    }
+
+    // Whether the bytes that may be pending are within their bounds.
+    fn has_loss_bytes(&self) -> bool
+        ensures { IsTrue result ↔ ((2097152 ≤ self.now.loss_bytes) × (self.now.loss_bytes ≤ 67108864)) }
+    {
+        self.loss_bytes >= LEAST_LOSS_BYTES && self.loss_bytes <= MOST_LOSS_BYTES
+    }
+
+    /// How long a call of the device may take; none for no end.
+    pub fn device(&self) -> Option<Duration> {
+        millis(self.device_millis)
+    }
+
+    /// How long it is from one lock check to the next; none where there is none.
+    pub fn check(&self) -> Option<Duration> {
+        millis(self.check_millis)
+    }
+}
+
+// So many milliseconds, and none for 0.
+fn millis(count: u64) -> Option<Duration> {
+    if count == 0 {
+        return None;
+    }
+    Some(Duration::from_millis(count))
 }
 
 // So many seconds, and none for 0.
@@ -86,8 +121,8 @@ pub struct ServeOptions {
 }
 
 impl ServeOptions {
-    /// These options; none where the frames aren't 512 to 65,536, the workers aren't 1 to 16, or no second is left for a
-    /// handshake.
+    /// These options; none where the frames aren't 512 to 65,536, the workers aren't 1 to 16, no second is left for a
+    /// handshake, or the bytes that may be pending aren't 2,097,152 to 67,108,864.
     pub fn new(
         frames: u64,
         mode: Mode,
@@ -98,14 +133,18 @@ impl ServeOptions {
         until_eof: bool,
     ) -> Option<ServeOptions>
         ensures { MatchOption result
-            ((512 ≤ frames) × (frames ≤ 65536) × (0 < workers) × (workers ≤ 16) × (0 < limits.handshake_seconds) → ⊥)
-            (λ options. (512 ≤ frames) × (0 < limits.handshake_seconds) × (options.frames ≡ frames) × (options.mode ≡ mode) × (options.workers ≡ workers)
+            ((512 ≤ frames) × (frames ≤ 65536) × (0 < workers) × (workers ≤ 16) × (0 < limits.handshake_seconds)
+            × (2097152 ≤ limits.loss_bytes) × (limits.loss_bytes ≤ 67108864) → ⊥)
+            (λ options. (512 ≤ frames) × (0 < limits.handshake_seconds) × (2097152 ≤ limits.loss_bytes) × (limits.loss_bytes ≤ 67108864) × (options.frames ≡ frames) × (options.mode ≡ mode) × (options.workers ≡ workers)
             × (options.limits ≡ limits) × (options.on_fault ≡ on_fault) × (options.when_full ≡ when_full) × (options.until_eof ≡ until_eof)) }
     {
         if !(LEAST_FRAMES..=MOST_FRAMES).contains(&frames) {
             return None;
         }
         if !(1..=MOST_WORKERS).contains(&workers) || limits.handshake_seconds == 0 {
+            return None;
+        }
+        if !limits.has_loss_bytes() {
             return None;
         }
         Some(ServeOptions {

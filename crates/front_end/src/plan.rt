@@ -24,7 +24,7 @@ pub enum Course {
     Faults,
 }
 
-/// How the figures of a server are printed.
+/// What a server is asked for at its status socket, and how its figures are printed.
 #[derive(Clone, Copy, PartialEq, Eq)]
 pub enum StatusForm {
     /// Once, in lines for people.
@@ -33,6 +33,19 @@ pub enum StatusForm {
     Json,
     /// Anew each second, with rates.
     Watch,
+    /// Not at all: the server stores what it has accepted, and tells the number of the last write of that.
+    Store,
+}
+
+/// The most bytes of an export's name as it is asked for. NBD allows 4,096, and a fresh name adds up to 21.
+pub const MOST_NAME_BYTES: usize = 4_075;
+
+/// The name by which clients ask for the export.
+#[derive(Clone, Copy)]
+pub struct ServedName<'a> {
+    pub text: &'a str,
+    /// Whether a hyphen and a number that differs at each start stand behind it.
+    pub is_fresh: bool,
 }
 
 /// What a command line asks for, and whether what happens is told on standard error.
@@ -40,6 +53,8 @@ pub enum StatusForm {
 pub struct Invocation<'a> {
     pub plan: Plan<'a>,
     pub is_verbose: bool,
+    /// Whether the plan waits while another process has locked the device.
+    pub waits_for_lock: bool,
 }
 
 /// What is to be done. A path names a device's file, which the caller opens or makes.
@@ -62,6 +77,7 @@ pub enum Plan<'a> {
         path: &'a str,
         addresses: Vec<Address<'a>>,
         status: Option<&'a str>,
+        name: ServedName<'a>,
         options: ServeOptions,
     },
     /// Asks a server at its status socket for its figures.

@@ -18,7 +18,7 @@ pub(crate) fn fill<F: FileExt>(
     file: &F,
     offset: u64,
     size: u64,
-    progress: &Progress<'_>,
+    progress: &Progress,
 ) -> io::Result<()> {
     let pieces = size.div_ceil(PIECE as u64);
     for piece in 0..pieces {

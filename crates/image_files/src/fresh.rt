@@ -1,7 +1,7 @@
 use crate::devices::Locks;
 use crate::files::{Place, Wanted};
 use crate::filling::fill;
-use crate::progress::Progress;
+use crate::progress::{Progress, Work};
 use std::cell::Cell;
 use std::fs::{File, Metadata, OpenFile};
 use std::io;
@@ -83,7 +83,7 @@ impl FreshFile {
 
     fn allocate(&self) -> io::Result<()> {
         let progress = if self.fills_all() {
-            Progress::new(&self.rt)
+            Progress::new(&self.rt, Work::Fill)
         } else {
             Progress::silent(&self.rt)
         };

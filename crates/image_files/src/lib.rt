@@ -3,10 +3,12 @@
 #![tactic(auto)]
 
 mod contents;
+mod copying;
 mod devices;
 mod files;
 mod filling;
 mod fresh;
+mod noted;
 mod progress;
 mod streams;
 mod told;

@@ -11,13 +11,26 @@ const BAR_GAP: u64 = 100;
 // Milliseconds from one line to the next.
 const LINE_GAP: u64 = 5_000;
 
+// Milliseconds within which a copy is short.
+const SHORT: u64 = 1_000;
+
 // The characters of the bar.
 const WIDTH: u64 = 30;
 
+/// What a work does to the MiB that it is counted in.
+#[derive(Clone, Copy)]
+pub(crate) enum Work {
+    /// It writes them all.
+    Fill,
+    /// It copies some of them.
+    Copy,
+}
+
 /// Tells on standard error how far a long work is: on a terminal by a bar, elsewhere by a line every five seconds.
 #[derive(Drop)]
-pub(crate) struct Progress<'a> {
-    rt: &'a HostRuntime,
+pub(crate) struct Progress {
+    rt: HostRuntime,
+    work: Work,
     is_terminal: bool,
     // When the work began; None if nothing is told of it.
     start: Option<Instant>,
@@ -25,12 +38,13 @@ pub(crate) struct Progress<'a> {
     told: Cell<Option<Instant>>,
 }
 
-impl<'a> Progress<'a> {
+impl Progress {
     /// Of a work that begins now.
-    pub(crate) fn new(rt: &'a HostRuntime) -> Progress<'a> {
+    pub(crate) fn new(rt: &HostRuntime, work: Work) -> Progress {
         let start = Instant::now(rt).ok();
         Progress {
-            rt,
+            rt: *rt,
+            work,
             is_terminal: rt.stderr().is_terminal(),
             start,
             told: Cell::new(start),
@@ -38,28 +52,42 @@ impl<'a> Progress<'a> {
     }
 
     /// Of a work of which nothing is told.
-    pub(crate) fn silent(rt: &'a HostRuntime) -> Progress<'a> {
+    pub(crate) fn silent(rt: &HostRuntime) -> Progress {
         Progress {
-            rt,
+            rt: *rt,
+            work: Work::Fill,
             is_terminal: false,
             start: None,
             told: Cell::new(None),
         }
     }
 
-    /// Tells that so many of `count` MiB are written, if that is due.
+    /// Whether it has been told how far the work is.
+    pub(crate) fn is_told(&self) -> bool {
+        self.told.get() != self.start
+    }
+
+    /// Tells that so many of `count` MiB are done, if that is due.
     pub(crate) fn show(&self, done: u64, count: u64) {
-        let gap = if self.is_terminal { BAR_GAP } else { LINE_GAP };
         let Some(told) = self.told.get() else {
             return;
         };
-        if told.elapsed(self.rt).unwrap_or(Duration::ZERO) >= Duration::from_millis(gap) {
-            self.told.set(Instant::now(self.rt).ok());
+        if told.elapsed(&self.rt).unwrap_or(Duration::ZERO) >= Duration::from_millis(self.gap()) {
+            self.told.set(Instant::now(&self.rt).ok());
             self.tell(done, count);
         }
     }
 
-    /// Ends the bar: all is written.
+    // The milliseconds from one look or line to the next. Of a copy that takes less than a second no bar is shown.
+    fn gap(&self) -> u64 {
+        match self.work {
+            _ if !self.is_terminal => LINE_GAP,
+            Work::Copy if !self.is_told() => SHORT,
+            _ => BAR_GAP,
+        }
+    }
+
+    /// Ends the bar: all is done.
     pub(crate) fn finish(&self, count: u64) {
         if self.is_terminal {
             self.tell(count, count);
@@ -72,10 +100,11 @@ impl<'a> Progress<'a> {
             return;
         };
         let state = State {
+            work: self.work,
             done,
             count,
             millis: start
-                .elapsed(self.rt)
+                .elapsed(&self.rt)
                 .unwrap_or(Duration::ZERO)
                 .as_millis()
                 .min(u128::from(u64::MAX)) as u64,
@@ -92,6 +121,7 @@ impl<'a> Progress<'a> {
 // How far a work is, how fast it went, and how long it takes at this rate.
 #[derive(Drop)]
 struct State {
+    work: Work,
     done: u64,
     count: u64,
     millis: u64,
@@ -100,17 +130,24 @@ struct State {
 impl Display for State {
     fn fmt<W: fmt::Write>(&self, f: &mut Formatter<W>) -> fmt::Result {
         let State {
+            work,
             done,
             count,
             millis,
         } = self;
         let rate = done.saturating_mul(1_000).checked_div(*millis).unwrap_or(0);
-        write!(f, "{done} of {count} MiB written, {rate} MiB/s")?;
+        match work {
+            Work::Fill => write!(f, "{done} of {count} MiB written, {rate} MiB/s")?,
+            Work::Copy => write!(f, "{done} of at most {count} MiB copied, {rate} MiB/s")?,
+        }
         match millis
             .saturating_mul(count.saturating_sub(*done))
             .checked_div(*done)
         {
-            Some(left) => write!(f, ", {} s left", left.div_ceil(1_000)),
+            Some(left) => match work {
+                Work::Fill => write!(f, ", {} s left", left.div_ceil(1_000)),
+                Work::Copy => write!(f, ", at most {} s left", left.div_ceil(1_000)),
+            },
             None => Ok(()),
         }
     }

@@ -1,3 +1,6 @@
+use crate::copying::CopyProgress;
+use crate::noted::{FRONT_BYTES, HeaderSlots};
+use image_model::Geometry;
 use std::cell::Cell;
 use std::fmt::Display;
 use std::fs::{Metadata, OpenFile};
@@ -5,6 +8,9 @@ use std::io::{self, ErrorKind};
 use std::os::unix::fs::FileExt;
 
 /// A device's file of which the first call that fails is told on standard error, with what was tried and why it failed.
+///
+/// A write into the header slots of an image fails if they aren't as this process has found or left them: something else has written
+/// to the image.
 #[derive(Drop)]
 pub struct ToldFile<'a, F: FileExt + OpenFile + Drop> {
     file: F,
@@ -14,11 +20,19 @@ pub struct ToldFile<'a, F: FileExt + OpenFile + Drop> {
     tells: Cell<bool>,
     // Whether it holds an image, with commands that a FLUSH may have confirmed.
     holds_image: bool,
+    // What stands in the header slots of an image; none of any other file.
+    slots: Cell<Option<HeaderSlots>>,
+    // By which it tells how far an opening is.
+    copying: Option<CopyProgress>,
 }
 
 // What is told of an image on a full disk.
 const FULL: &str =
     "nbdj: no space left on device: free some and start again; nothing a FLUSH confirmed is lost";
+
+// What is told where the header slots aren't as they were left.
+const OVERWRITTEN: &str =
+    "the header isn't the one this process wrote last: something else has written to this image";
 
 impl<'a, F: FileExt + OpenFile + Drop> ToldFile<'a, F> {
     /// The file at this path, whose faults are told where `tells` is set; whether it holds an image already.
@@ -29,13 +43,61 @@ impl<'a, F: FileExt + OpenFile + Drop> ToldFile<'a, F> {
         tells: bool,
         holds_image: bool,
     ) -> ToldFile<'a, F> {
+        // What can't be read now can't be read at the opening either.
+        let slots = if holds_image {
+            HeaderSlots::read(&file).ok()
+        } else {
+            None
+        };
         ToldFile {
             file,
             path,
             rt: *rt,
             tells: Cell::new(tells),
             holds_image,
+            slots: Cell::new(slots),
+            copying: None,
         }
+    }
+
+    // Looks before a write whether the header slots are as they were left, if it goes there.
+    fn look_before(&self, offset: u64) -> io::Result<()> {
+        if offset >= FRONT_BYTES as u64 {
+            return Ok(());
+        }
+        let Some(left) = self.slots.get() else {
+            return Ok(());
+        };
+        let found = match HeaderSlots::read(&self.file) {
+            Ok(found) => found,
+            Err(error) => {
+                self.tell_of("read", FRONT_BYTES, 0, &error);
+                return Err(error);
+            }
+        };
+        if found != left {
+            self.tells.set(false);
+            let path = self.path;
+            let _ = eprintln!(self.rt; "nbdj: {path}: {OVERWRITTEN}");
+            return Err(io::Error::from(ErrorKind::InvalidData));
+        }
+        Ok(())
+    }
+
+    // Notes what was written, if it went into the header slots.
+    fn note(&self, offset: u64, bytes: &[u8]) {
+        if offset >= FRONT_BYTES as u64 {
+            return;
+        }
+        if let Some(mut slots) = self.slots.get() {
+            slots.note(offset, bytes);
+            self.slots.set(Some(slots));
+        }
+    }
+
+    /// Has it tell how far an opening of an image of this geometry is, if that copies for long.
+    pub fn tell_copying(&mut self, geometry: &Geometry) {
+        self.copying = Some(CopyProgress::new(&self.rt, geometry));
     }
 
     // Tells of the first call that failed.
@@ -59,16 +121,25 @@ impl<'a, F: FileExt + OpenFile + Drop> FileExt for ToldFile<'a, F> {
     fn read_at(&self, buf: &mut [u8], offset: u64) -> io::Result<usize> {
         let wanted = buf.len();
         let read = self.file.read_at(buf, offset);
-        if let Err(error) = &read {
-            self.tell_of("read", wanted, offset, error);
+        match (&read, &self.copying) {
+            (Err(error), _) => self.tell_of("read", wanted, offset, error),
+            (Ok(count), Some(copying)) => copying.note_read(offset, *count),
+            (Ok(_), None) => {}
         }
         read
     }
 
     fn write_at(&self, buf: &[u8], offset: u64) -> io::Result<usize> {
+        self.look_before(offset)?;
         let written = self.file.write_at(buf, offset);
-        if let Err(error) = &written {
-            self.tell_of("write", buf.len(), offset, error);
+        match &written {
+            Ok(count) => {
+                self.note(offset, &buf[..*count]);
+                if let Some(copying) = &self.copying {
+                    copying.note_write(offset, *count);
+                }
+            }
+            Err(error) => self.tell_of("write", buf.len(), offset, error),
         }
         written
     }

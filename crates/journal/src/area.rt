@@ -1,5 +1,5 @@
 ghost use Rattle.std.specs.Prelude.{◌≡◌, ◌≢◌, ◌⊎◌, ℕ, ◌+◌, ◌≤◌, ◌<◌, ◌^◌, ◌==◌, ◌↔◌, List, [], ◌∷◌, ◌++◌, length, take, drop, OnOk, IfErr, OnErr, IsErr, IsErrOf, IsErrAnd, vec_capacity};
-ghost use Rattle.disk_model.specs.Disk.{IsSyncedIn, IsWritten, IsWriteFailed, LeavesOnly, MayLeaveTorn};
+ghost use Rattle.disk_model.specs.Disk.{IsStored, IsSyncedIn, IsWritten, IsWriteFailed, LeavesOnly, MayLeaveTorn};
 ghost use Rattle.disk_model.specs.Faults.{faults_after};
 ghost use Rattle.image_model.specs.Change.{AreChanges};
 ghost use Rattle.journal.specs.Append.{end_after, grown, IsNext};
@@ -325,5 +325,18 @@ fn write_group<D: Disk>(disk: &mut D, gate: u64, body: &[u8]) -> Result<(), Devi
         → LeavesOnly (D.state disk.old) (D.state disk.new) (LeavesGateOrBytes (D.state disk.old) gate body.now) }
 {
     write_synced(disk, gate + 1, body)?;
+    open_gate(disk, gate)
+}
+
+// Opens the gate, which is stable at `Ok`.
+fn open_gate<D: Disk>(disk: &mut D, gate: u64) -> Result<(), DeviceFault>
+    requires { gate + 1 ≤ D.extent disk.old }
+    ensures extent { D.extent disk.new ≡ D.extent disk.old }
+    ensures faults { D.faults disk.new ≡ faults_after result (D.faults disk.old) }
+    ensures honest { D.honest disk.new ↔ D.honest disk.old }
+
+    ensures stored { D.honest disk.old → OnOk result (IsStored (D.state disk.old) gate (1 ∷ []) (D.state disk.new)) }
+    ensures any_moment { D.honest disk.old → LeavesOnly (D.state disk.old) (D.state disk.new) (MayLeaveTorn (D.state disk.old) gate 1) }
+{
     write_synced(disk, gate, &[OPEN])
 }

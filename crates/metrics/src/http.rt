@@ -1,4 +1,4 @@
-//! As much of HTTP/1.1 as it takes to answer a GET.
+//! As much of HTTP/1.1 as it takes to answer a GET, and the POST that has all stored.
 
 use httparse::Status;
 use httparse::spans::{EMPTY_HEADER_SPAN, parse_request};
@@ -14,9 +14,11 @@ pub enum Route {
     Metrics,
     /// The figures as JSON.
     Status,
+    /// That all is stored.
+    Store,
     /// A path that names nothing.
     Unknown,
-    /// A method other than GET.
+    /// A method that the path doesn't have.
     BadMethod,
     /// No request of HTTP/1.x.
     Malformed,
@@ -29,14 +31,15 @@ pub fn route_of(bytes: &[u8]) -> Option<Route> {
     let mut headers = [EMPTY_HEADER_SPAN; 32];
     match parse_request(bytes, &mut headers) {
         Ok(Status::Complete(head)) => {
-            if bytes.get(head.method.start..head.method.end) != Some(b"GET".as_slice()) {
-                return Some(Route::BadMethod);
-            }
+            let method = bytes.get(head.method.start..head.method.end).unwrap_or(b"");
             let path = bytes.get(head.path.start..head.path.end).unwrap_or(b"");
-            Some(match path {
-                b"/metrics" => Route::Metrics,
-                b"/status" => Route::Status,
-                _ => Route::Unknown,
+            Some(match (method, path) {
+                (b"GET", b"/metrics") => Route::Metrics,
+                (b"GET", b"/status") => Route::Status,
+                (b"POST", b"/store") => Route::Store,
+                (b"GET", b"/store") => Route::BadMethod,
+                (b"GET", _) => Route::Unknown,
+                _ => Route::BadMethod,
             })
         }
         Ok(Status::Partial) if bytes.len() < MOST_REQUEST_BYTES => None,

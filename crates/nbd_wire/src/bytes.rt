@@ -31,11 +31,12 @@ pub fn read_some<R: Read>(input: &mut R, piece: &mut Vec<u8>) -> Result<usize, S
 pub fn write_whole<W: Write>(output: &mut W, bytes: &[u8]) -> Result<(), StreamFault>
     ensures { WritesPart (W.contents output.old) (W.contents output.new) bytes.now result }
 {
-    write_each(output, bytes)?;
+    write_unflushed(output, bytes)?;
     output.flush().map_err(|_| StreamFault)
 }
 
-fn write_each<W: Write>(output: &mut W, bytes: &[u8]) -> Result<(), StreamFault>
+/// Writes all of the bytes and doesn't hand them on: others follow at once. It fails as `write_whole` does.
+pub fn write_unflushed<W: Write>(output: &mut W, bytes: &[u8]) -> Result<(), StreamFault>
     ensures { WritesPart (W.contents output.old) (W.contents output.new) bytes.now result }
 {
     let mut rest = bytes;

@@ -12,7 +12,7 @@ mod reply;
 mod stream;
 mod transmission;
 
-pub use bytes::{StreamFault, read_some, write_whole};
+pub use bytes::{StreamFault, read_some, write_unflushed, write_whole};
 pub use command::{BLOCK_STATUS, CommandFlags, DISCONNECT, FLUSH, READ, TRIM, WRITE, WRITE_ZEROES};
 pub use error::{BadMagic, Errno, RequestFault, WireFault};
 pub use head::{RequestHead, decode_request, encode_request, encode_simple};

@@ -41,20 +41,22 @@ impl Flags for TransmissionFlags {
     }
 }
 
-/// The flags of the export: a READ may ask for one chunk where structured replies were agreed on, and a FLUSH
-/// on one connection covers all of them.
-pub fn transmission_flags(structured: bool) -> u16
-    ensures { result ≡ (if structured then 0x01ed else 0x016d) }
+/// The flags of the export: a READ may ask for one chunk if structured replies were agreed on, and all connections see the same
+/// image. FLUSH and FUA are offered if they make something durable; a FLUSH on one connection then covers all of them.
+pub fn transmission_flags(structured: bool, flushes: bool) -> u16
+    ensures { result ≡ (if flushes then (if structured then 0x01ed else 0x016d) else (if structured then 0x01e1 else 0x0161)) }
 {
-    let flags = TransmissionFlags::HAS_FLAGS
-        .union(TransmissionFlags::SEND_FLUSH)
-        .union(TransmissionFlags::SEND_FUA)
+    let mut flags = TransmissionFlags::HAS_FLAGS
         .union(TransmissionFlags::SEND_TRIM)
         .union(TransmissionFlags::SEND_WRITE_ZEROES)
         .union(TransmissionFlags::CAN_MULTI_CONN);
-    if structured {
-        flags.union(TransmissionFlags::SEND_DF).bits()
-    } else {
-        flags.bits()
+    if flushes {
+        flags = flags
+            .union(TransmissionFlags::SEND_FLUSH)
+            .union(TransmissionFlags::SEND_FUA);
     }
+    if structured {
+        flags = flags.union(TransmissionFlags::SEND_DF);
+    }
+    flags.bits()
 }

@@ -1,4 +1,5 @@
 use crate::server_log::{ServerLog, Topic};
+use crate::watched_file::WatchedFile;
 use disk_model::DeviceFault;
 use export::{ExportName, NotedBase, ReadBeside};
 use image_model::Geometry;
@@ -10,8 +11,8 @@ use std::sync::Wait;
 
 /// A second handle of a device's file, whose reads that fail are told.
 #[derive(Drop)]
-pub struct SecondHandle<'a, R> {
-    pub file: File,
+pub struct SecondHandle<'a, R: Wait + Clock> {
+    pub file: WatchedFile<'a, File, R>,
     pub log: ServerLog<'a, R>,
 }
 

@@ -5,35 +5,46 @@ ghost use Rattle.std.specs.Prelude.{ℕ};
 ghost use Rattle.nbdj_pipe.specs.Plan.{Suits};
 
 mod beside;
+mod device_watch;
 mod handed;
+mod lock_guard;
 mod meter;
+mod opening;
 mod server_log;
 mod serving;
 mod status_client;
 mod status_socket;
 mod teller;
 mod timed_file;
+mod watched_file;
 
+use crate::device_watch::DeviceWatch;
+use crate::opening::Opening;
+use crate::server_log::Seconds;
 use crate::serving::serve_at;
 use crate::status_client::ask;
 use crate::teller::Teller;
 use clap::error::ErrorKind;
 use command_line::{address_fault, line};
 use disk_model::{Disk, FileDisk};
-use front_end::{Course, FormatOptions, Invocation, Plan};
+use front_end::{
+    Address, Course, FormatOptions, Invocation, Plan, Refusal, ServeOptions, ServedName,
+};
 use image_files::{
-    ClosedStreams, FileFault, Locks, Opened, ToldFile, Wanted, open, open_for_reading, open_fresh,
-    remove_made, try_fresh,
+    ClosedStreams, FileFault, Locks, Opened, ToldFile, Wanted, header_of, open_for_reading,
+    open_fresh, remove_made, try_fresh,
 };
 use image_model::{BLOCK_BYTES, Geometry};
 use nbdj_pipe::{exit_status, perform};
 use nbdj_sweep::{faults, sweep};
 use script_runner::script;
+use std::alloc::{AllocError, Global};
 use std::fs::File;
 use std::process::ExitCode;
 use std::rt::Clock;
-use std::sync::Wait;
-use std::thread::Threads;
+use std::sync::{Arc, Wait};
+use std::thread::{self, Threads};
+use std::time::Duration;
 use std::{env, io};
 
 fn main(rt: HostRuntime) -> ExitCode {
@@ -54,9 +65,104 @@ where
 {
     let alloc = rt.alloc();
     let arguments: Vec<String> = env::args(rt)?.collect(alloc)?;
+    if let Some((path, limit)) = watched_path(alloc, &arguments)? {
+        return run_watched(rt, threads, arguments, path, limit);
+    }
+    run_words(rt, threads, &arguments, None)
+}
+
+// The path of the device that is watched while the command line is carried out, and how long a call of it may take; None where none is.
+fn watched_path(
+    alloc: Global,
+    arguments: &[String],
+) -> Result<Option<(String, Option<Duration>)>, AllocError> {
+    let words: Vec<&str> = arguments.iter().map(|word| word.as_str()).collect(alloc)?;
+    let invocation = match line(alloc, &words) {
+        Ok(invocation) => invocation,
+        Err(fault) if fault.kind() == ErrorKind::OutOfMemory => return Err(AllocError),
+        // What is wrong with it is told where it is carried out.
+        Err(_) => return Ok(None),
+    };
+    match &invocation.plan {
+        Plan::Serve { path, options, .. } => {
+            let limits = options.limits;
+            if limits.device().is_none() && limits.check().is_none() {
+                return Ok(None);
+            }
+            Ok(Some((String::from_str(alloc, path)?, limits.device())))
+        }
+        _ => Ok(None),
+    }
+}
+
+// Carries out the command line in a thread of its own. If a call of the device takes too long, `main` returns, and that ends all threads.
+fn run_watched<R>(
+    rt: &HostRuntime,
+    threads: &R,
+    arguments: Vec<String>,
+    path: String,
+    limit: Option<Duration>,
+) -> anyhow::Result<u8>
+where
+    R: Threads + Wait + Clock + Copy + Send + Sync + Drop + 'static,
+{
+    let watch = Arc::new(rt.alloc(), DeviceWatch::new(limit))?;
+    let (host, own, its) = (*rt, *threads, Arc::try_clone(&watch)?);
+    let work = move || {
+        let status = run_words(&host, &own, &arguments, Some(&its)).unwrap_or_else(|_| no_memory(
+            &host,
+        ));
+        its.finish(&own, status);
+    };
+    if thread::spawn(threads, work).is_err() {
+        return Ok(no_memory(rt));
+    }
+    if let Some(status) = watch.wait(threads) {
+        return Ok(status);
+    }
+    tell_late(rt, threads, &watch, path, limit)?;
+    Ok(1)
+}
+
+// Tells that a call of the device takes too long. A thread does it, so that the end doesn't wait for who reads it.
+fn tell_late<R>(
+    rt: &HostRuntime,
+    threads: &R,
+    watch: &Arc<DeviceWatch, Global>,
+    path: String,
+    limit: Option<Duration>,
+) -> Result<(), AllocError>
+where
+    R: Threads + Wait + Clock + Copy + Send + Sync + Drop + 'static,
+{
+    let limit = Seconds(limit.unwrap_or(Duration::ZERO));
+    let (host, own, its) = (*rt, *threads, Arc::try_clone(watch)?);
+    watch.add_task(threads);
+    let tell = move || {
+        let _ = eprintln!(host; "nbdj: {path}: a call of the device has taken longer than {limit}");
+        let _status = exit_status(Err(Refusal::DeviceFault), &mut host.stderr());
+        its.finish_task(&own);
+    };
+    if thread::spawn(threads, tell).is_ok() {
+        watch.wait_for_tasks(threads);
+    }
+    Ok(())
+}
+
+// Carries out the plan of a command line, whose device is watched where there is a watch; the exit status.
+fn run_words<'a, R>(
+    rt: &'a HostRuntime,
+    threads: &'a R,
+    arguments: &'a [String],
+    watch: Option<&'a DeviceWatch>,
+) -> anyhow::Result<u8>
+where
+    R: Threads + Wait + Clock + Copy + Send + Sync + Drop + 'static,
+{
+    let alloc = rt.alloc();
     let words: Vec<&str> = arguments.iter().map(|word| word.as_str()).collect(alloc)?;
     match line(alloc, &words) {
-        Ok(invocation) => Ok(run(rt, threads, invocation)),
+        Ok(invocation) => Ok(run(rt, threads, invocation, watch)),
         Err(fault) if fault.kind() == ErrorKind::OutOfMemory => Ok(no_memory(rt)),
         Err(fault) => {
             // Where not even that can be written, the status alone tells.
@@ -72,7 +178,12 @@ fn no_memory(rt: &HostRuntime) -> u8 {
 }
 
 // Carries out the plan, and gives the exit status. The locks on a device's file are held to the end.
-fn run<R>(rt: &HostRuntime, threads: &R, invocation: Invocation<'_>) -> u8
+fn run<'a, R>(
+    rt: &'a HostRuntime,
+    threads: &'a R,
+    invocation: Invocation<'a>,
+    watch: Option<&'a DeviceWatch>,
+) -> u8
 where
     R: Threads + Wait + Clock + Copy + Send + Sync + Drop + 'static,
 {
@@ -87,6 +198,7 @@ where
             path,
             addresses,
             status,
+            name,
             options,
         } => {
             let has_sockets = handed::count(rt) > 0;
@@ -94,29 +206,41 @@ where
                 let _ = address_fault(rt.alloc(), has_sockets).print(rt);
                 return 2;
             }
-            match open(rt, path) {
-                Ok(opened) => {
-                    // Where the system has no second handle left reads wait for the first one.
-                    let beside = opened.file.try_clone().ok();
-                    let (disk, _locks) = disk_of(rt, teller, opened, path);
-                    serve_at(
-                        rt, threads, teller, path, disk, beside, addresses, *status, *options,
-                    )
-                }
+            let opening = Opening {
+                rt,
+                threads,
+                teller,
+                path,
+                waits_for_lock: invocation.waits_for_lock,
+                until_eof: options.until_eof,
+                watch,
+            };
+            open_and_serve(&opening, addresses, *status, *name, *options)
+        }
+        Plan::Pipe { path, .. } | Plan::Recover { path, .. } | Plan::Upgrade { path } => {
+            let opening = Opening {
+                rt,
+                threads,
+                teller,
+                path,
+                waits_for_lock: invocation.waits_for_lock,
+                until_eof: false,
+                watch,
+            };
+            match opening.open() {
+                Ok(Some(opened)) => run_opened(rt, teller, &invocation.plan, path, opened),
+                Ok(None) => 0,
                 Err(fault) => no_file(rt, teller, path, fault),
             }
         }
-        Plan::Pipe { path, .. } | Plan::Recover { path, .. } | Plan::Upgrade { path } => {
-            run_opened(rt, teller, &invocation.plan, path, open(rt, path))
-        }
         Plan::Check { path, .. } => {
-            run_opened(
-                rt,
-                teller,
-                &invocation.plan,
-                path,
-                open_for_reading(rt, path),
-            )
+            match open_for_reading(rt, path) {
+                Ok(opened) => {
+                    let opened = teller.tell_header(path, opened);
+                    run_opened(rt, teller, &invocation.plan, path, opened)
+                }
+                Err(fault) => no_file(rt, teller, path, fault),
+            }
         }
         Plan::Status { socket, form } => ask(rt, threads, teller, socket, *form),
         Plan::Rehearse { course } => run_script(rt, *course),
@@ -168,23 +292,57 @@ fn allocated_of(geometry: Geometry, options: FormatOptions) -> u64 {
     size.saturating_sub(geometry.blocks.saturating_mul(BLOCK_BYTES))
 }
 
-// Carries out the plan on the file of a device, where it was opened.
-fn run_opened(
-    rt: &HostRuntime,
-    teller: Teller,
-    plan: &Plan<'_>,
-    path: &str,
-    found: Result<Opened, FileFault>,
-) -> u8
+// Carries out the plan on the file of a device.
+fn run_opened(rt: &HostRuntime, teller: Teller, plan: &Plan<'_>, path: &str, opened: Opened) -> u8
     requires { (extent : ℕ) → Suits plan.now extent }
 {
-    match found {
-        Ok(opened) => {
-            let (disk, _locks) = disk_of(rt, teller, opened, path);
-            run_on(rt, plan, disk)
-        }
-        Err(fault) => no_file(rt, teller, path, fault),
-    }
+    let (disk, _locks) = disk_of(rt, teller, opened, path);
+    run_on(rt, plan, disk)
+}
+
+// Opens a device and serves it.
+fn open_and_serve<R>(
+    opening: &Opening<'_, R>,
+    addresses: &[Address<'_>],
+    status: Option<&str>,
+    name: ServedName<'_>,
+    options: ServeOptions,
+) -> u8
+where
+    R: Threads + Wait + Clock + Copy + Send + Sync + Drop + 'static,
+{
+    let Opening {
+        rt,
+        threads,
+        teller,
+        path,
+        ..
+    } = *opening;
+    let opened = match opening.open() {
+        Ok(Some(opened)) => opened,
+        Ok(None) => return 0,
+        Err(fault) => return no_file(rt, teller, path, fault),
+    };
+    let guard = match opening.guard_of(&opened, options.limits.check()) {
+        Ok(guard) => guard,
+        Err(fault) => return no_file(rt, teller, path, fault),
+    };
+    // Where the system has no second handle left reads wait for the first one.
+    let beside = opened.file.try_clone().ok();
+    let (disk, _locks) = disk_of(rt, teller, opened, path);
+    serve_at(
+        rt,
+        threads,
+        teller,
+        path,
+        disk,
+        beside,
+        guard.as_ref(),
+        addresses,
+        status,
+        name,
+        options,
+    )
 }
 
 // The device of a file that was opened, and the locks on what else names it.
@@ -197,14 +355,14 @@ fn disk_of<'a>(
     let Opened {
         file,
         size,
-        length,
+        length: _,
         locks,
     } = opened;
-    let mut disk = FileDisk::new(file, size);
-    if teller.tells_causes() {
-        disk = teller.tell_header(path, length, disk);
+    let (file, header) = header_of(file);
+    let mut file = ToldFile::new(rt, file, path, teller.tells_causes(), true);
+    if let Some(header) = header {
+        file.tell_copying(&header.geometry);
     }
-    let file = ToldFile::new(rt, disk.into_file(), path, teller.tells_causes(), true);
     (FileDisk::new(file, size), locks)
 }
 

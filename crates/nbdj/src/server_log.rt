@@ -1,5 +1,6 @@
 //! What `serve` tells on standard error while it works. A thread of its own writes it, so that nobody waits for who reads it.
 
+use crate::lock_guard::LockGuard;
 use crate::meter::micros_of;
 use crate::status_socket::{ANSWERERS, StatusSocket};
 use export::{Point, SyncPoints};
@@ -22,6 +23,9 @@ const MOST_WAITING: usize = 65_536;
 /// The most bytes of a line.
 const LONGEST_LINE: usize = 4_608;
 
+/// One thread cuts the connections if a call of the device takes too long, and one checks the lock.
+const GUARDS: u32 = 2;
+
 /// For so many seconds the program waits at its end until all lines are written.
 const LAST_WAIT: u64 = 1;
 
@@ -37,9 +41,10 @@ pub enum Topic {
     Unread,
     NoMemory,
     Unaccepted,
+    Unlocked,
 }
 
-const TOPICS: usize = 9;
+const TOPICS: usize = 10;
 
 impl Topic {
     fn place(self) -> usize {
@@ -53,13 +58,15 @@ impl Topic {
             Topic::Unread => 6,
             Topic::NoMemory => 7,
             Topic::Unaccepted => 8,
+            Topic::Unlocked => 9,
         }
     }
 
     // The seconds from one line to the next.
     fn gap(self) -> u64 {
         match self {
-            Topic::Full | Topic::Unread | Topic::NoMemory | Topic::Unaccepted => 60,
+            Topic::Full | Topic::Unread | Topic::NoMemory | Topic::Unaccepted | Topic::Unlocked =>
+                60,
             _ => 1,
         }
     }
@@ -68,7 +75,7 @@ impl Topic {
     fn is_urgent(self) -> bool {
         matches!(
             self,
-            Topic::Full | Topic::Unread | Topic::NoMemory | Topic::Unaccepted
+            Topic::Full | Topic::Unread | Topic::NoMemory | Topic::Unaccepted | Topic::Unlocked
         )
     }
 }
@@ -321,6 +328,7 @@ pub struct ServerWatch<'a, 'b, R> {
     pub host: HostRuntime,
     pub log: ServerLog<'a, R>,
     pub announcement: &'b str,
+    pub guard: Option<&'b LockGuard<'b>>,
 }
 
 // It holds no thread.
@@ -405,9 +413,31 @@ impl<'a, 'b, R: Wait + Clock> Log for ServerWatch<'a, 'b, R> {
         }
     }
 
+    fn guards(&self) -> u32 {
+        match self.guard {
+            Some(_) => GUARDS,
+            None => 0,
+        }
+    }
+
+    fn guard<W: Watched>(&self, at: u32, watched: &W) {
+        let Some(guard) = self.guard else {
+            return;
+        };
+        if at == 0 {
+            guard.cut_when_late(self.log.rt, watched);
+        } else if let Err(error) = guard.check_on(self.log.rt, watched) {
+            self.log
+                .tell(Topic::Unlocked, format_args!("lock check: {error}"));
+        }
+    }
+
     fn end_answers(&self) {
         if let Some(status) = self.log.status {
             status.end();
+        }
+        if let Some(guard) = self.guard {
+            guard.watch.end_guards(self.log.rt);
         }
     }
 }
@@ -432,7 +462,7 @@ fn way_out(end: Result<(), End>) -> &'static str {
 
 // Seconds with three digits behind the point.
 #[derive(Drop)]
-struct Seconds(Duration);
+pub struct Seconds(pub Duration);
 
 impl Display for Seconds {
     fn fmt<W: fmt::Write>(&self, f: &mut Formatter<W>) -> fmt::Result {

@@ -2,21 +2,24 @@
 
 use crate::beside::SecondHandle;
 use crate::handed;
+use crate::lock_guard::LockGuard;
 use crate::meter::Meter;
 use crate::server_log::{LogLines, ServerLog, ServerWatch};
 use crate::status_socket::StatusSocket;
 use crate::teller::Teller;
 use crate::timed_file::TimedFile;
+use crate::watched_file::WatchedFile;
 use disk_model::{Disk, FileDisk};
 use export::OpenDevice;
-use front_end::{Address, Refusal, ServeOptions};
+use front_end::{Address, Refusal, ServeOptions, ServedName};
 use header_slots::read_current;
 use image_files::ToldFile;
 use nbdj_pipe::exit_status;
+use negotiation::OfferedName;
 use server::{Listener, serve};
 use std::fmt::{Display, Write};
 use std::fs::{self, File, Permissions};
-use std::io::{self, ErrorKind};
+use std::io::{self, ErrorKind, Read};
 use std::net::TcpListener;
 use std::os::unix::fs::{FileTypeExt, PermissionsExt};
 use std::os::unix::net::{UnixListener, UnixStream};
@@ -33,19 +36,66 @@ pub fn serve_at<R: Threads + Wait + Clock + Copy + Send + Sync + Drop + 'static>
     path: &str,
     disk: FileDisk<ToldFile<'_, File>>,
     beside: Option<File>,
+    guard: Option<&LockGuard<'_>>,
     addresses: &[Address<'_>],
     status: Option<&str>,
+    name: ServedName<'_>,
     options: ServeOptions,
 ) -> u8 {
-    let outcome = match status {
-        None => serve_logged(
-            rt, threads, teller, path, disk, beside, None, addresses, options,
-        ),
-        Some(at) => serve_told(
-            rt, threads, teller, path, disk, beside, at, addresses, options,
-        ),
+    let outcome = match Name::of(rt, teller, name) {
+        Err(refusal) => Err(refusal),
+        Ok(name) => match status {
+            None => serve_logged(
+                rt, threads, teller, path, disk, beside, guard, None, addresses, &name, options,
+            ),
+            Some(at) => serve_told(
+                rt, threads, teller, path, disk, beside, guard, at, addresses, &name, options,
+            ),
+        },
     };
     exit_status(outcome, &mut rt.stderr())
+}
+
+// The name by which clients ask for the export.
+#[derive(Drop)]
+struct Name {
+    text: String,
+    // Whether it differs from that of each earlier start, and so is told.
+    is_fresh: bool,
+}
+
+impl Name {
+    fn of(rt: &HostRuntime, teller: Teller, name: ServedName<'_>) -> Result<Name, Refusal> {
+        let text = name.text;
+        let made = if name.is_fresh {
+            match random_number(rt) {
+                Ok(number) => format!(in rt.alloc(); "{text}-{number}"),
+                Err(error) => {
+                    teller.tell(RANDOM, format_args!("{error}"));
+                    return Err(Refusal::StreamFault);
+                }
+            }
+        } else {
+            String::from_str(rt.alloc(), text)
+        };
+        match made {
+            Ok(text) => Ok(Name {
+                text,
+                is_fresh: name.is_fresh,
+            }),
+            Err(_) => Err(Refusal::NoMemory),
+        }
+    }
+}
+
+const RANDOM: &str = "/dev/urandom";
+
+// A number that no other start has. A clock may be set back, so it isn't taken from one.
+fn random_number(rt: &HostRuntime) -> io::Result<u64> {
+    let mut bytes = [0; 8];
+    let mut file = File::open(rt, RANDOM)?;
+    file.read_exact(&mut bytes)?;
+    Ok(u64::from_ne_bytes(bytes))
 }
 
 // Serves a device whose figures are told at a socket.
@@ -56,8 +106,10 @@ fn serve_told<R: Threads + Wait + Clock + Copy + Send + Sync + Drop + 'static>(
     path: &str,
     disk: FileDisk<ToldFile<'_, File>>,
     beside: Option<File>,
+    guard: Option<&LockGuard<'_>>,
     status: &str,
     addresses: &[Address<'_>],
+    name: &Name,
     options: ServeOptions,
 ) -> Result<(), Refusal> {
     let Ok(meter) = Meter::new(rt.alloc(), rt) else {
@@ -66,7 +118,7 @@ fn serve_told<R: Threads + Wait + Clock + Copy + Send + Sync + Drop + 'static>(
     let socket = open_status(rt, teller, path, status, &meter)?;
     let told = Some(&socket);
     let outcome = serve_logged(
-        rt, threads, teller, path, disk, beside, told, addresses, options,
+        rt, threads, teller, path, disk, beside, guard, told, addresses, name, options,
     );
     // If it can't be removed the next server replaces it.
     let _ = fs::remove_file(rt, status);
@@ -99,21 +151,38 @@ fn serve_logged<'a, R: Threads + Wait + Clock + Copy + Send + Sync + Drop + 'sta
     path: &'a str,
     disk: FileDisk<ToldFile<'a, File>>,
     beside: Option<File>,
+    guard: Option<&'a LockGuard<'a>>,
     status: Option<&'a StatusSocket<'a>>,
     addresses: &[Address<'_>],
+    name: &Name,
     options: ServeOptions,
 ) -> Result<(), Refusal> {
     let Ok(lines) = LogLines::start(rt, threads) else {
         return Err(Refusal::NoMemory);
     };
     let log = ServerLog::new(threads, &lines, path, teller.is_verbose(), status);
+    let watch = match guard {
+        Some(guard) => Some(guard.watch),
+        None => None,
+    };
     let beside = match beside {
-        Some(file) => Some(SecondHandle { file, log }),
+        Some(file) => Some(SecondHandle {
+            file: WatchedFile {
+                file,
+                rt: threads,
+                watch,
+            },
+            log,
+        }),
         None => None,
     };
     let size = disk.size();
     let file = TimedFile {
-        file: disk.into_file(),
+        file: WatchedFile {
+            file: disk.into_file(),
+            rt: threads,
+            watch,
+        },
         rt: *rt,
         syncs: match status {
             Some(socket) => Some(&socket.meter.syncs),
@@ -121,7 +190,9 @@ fn serve_logged<'a, R: Threads + Wait + Clock + Copy + Send + Sync + Drop + 'sta
         },
     };
     let outcome = match open_device(rt, log, FileDisk::new(file, size), beside) {
-        Ok(device) => listen(rt, threads, teller, log, device, addresses, options),
+        Ok(device) => listen(
+            rt, threads, teller, log, guard, device, addresses, name, options,
+        ),
         Err(refusal) => Err(refusal),
     };
     log.finish();
@@ -129,15 +200,15 @@ fn serve_logged<'a, R: Threads + Wait + Clock + Copy + Send + Sync + Drop + 'sta
 }
 
 // The device of a server.
-type ServedDisk<'a> = FileDisk<TimedFile<'a, ToldFile<'a, File>>>;
+type ServedDisk<'a, R> = FileDisk<TimedFile<'a, WatchedFile<'a, ToldFile<'a, File>, R>>>;
 
 // Opens a device, and tells how many commands that has recovered.
 fn open_device<'a, 'b, R: Wait + Clock>(
     rt: &HostRuntime,
     log: ServerLog<'b, R>,
-    disk: ServedDisk<'a>,
+    disk: ServedDisk<'a, R>,
     beside: Option<SecondHandle<'b, R>>,
-) -> Result<OpenDevice<ServedDisk<'a>, SecondHandle<'b, R>>, Refusal> {
+) -> Result<OpenDevice<ServedDisk<'a, R>, SecondHandle<'b, R>>, Refusal> {
     let mut disk = disk;
     let base = if log.is_verbose() {
         base_of(&mut disk)
@@ -169,10 +240,15 @@ fn listen<R: Threads + Wait + Clock + Copy + Send + Sync + Drop + 'static>(
     threads: &R,
     teller: Teller,
     log: ServerLog<'_, R>,
-    device: OpenDevice<ServedDisk<'_>, SecondHandle<'_, R>>,
+    guard: Option<&LockGuard<'_>>,
+    device: OpenDevice<ServedDisk<'_, R>, SecondHandle<'_, R>>,
     addresses: &[Address<'_>],
+    name: &Name,
     options: ServeOptions,
 ) -> Result<(), Refusal> {
+    let Some(offered) = OfferedName::new(name.text.as_bytes()) else {
+        return Err(Refusal::StreamFault);
+    };
     let mut made = Made {
         rt: *rt,
         listeners: Vec::new(rt.alloc()),
@@ -184,6 +260,7 @@ fn listen<R: Threads + Wait + Clock + Copy + Send + Sync + Drop + 'static>(
     } else {
         made.open_all(teller, addresses)
     };
+    let opened = opened.and_then(|()| made.tell_name(name));
     let Made {
         listeners,
         said,
@@ -196,6 +273,7 @@ fn listen<R: Threads + Wait + Clock + Copy + Send + Sync + Drop + 'static>(
                 host: *rt,
                 log,
                 announcement: said.as_str(),
+                guard,
             };
             let (outcome, _disk) = serve(
                 threads,
@@ -204,6 +282,7 @@ fn listen<R: Threads + Wait + Clock + Copy + Send + Sync + Drop + 'static>(
                 listeners,
                 rt.stdin(),
                 options,
+                offered,
                 watch,
             );
             outcome
@@ -222,7 +301,7 @@ fn listen<R: Threads + Wait + Clock + Copy + Send + Sync + Drop + 'static>(
 struct Made<'a> {
     rt: HostRuntime,
     listeners: Vec<Listener>,
-    // A line for each of them, which says where it listens.
+    // A line for each of them, which says where it listens, and one for a name that nobody can know.
     said: String,
     // The files of those that were made.
     files: Vec<&'a str>,
@@ -263,6 +342,14 @@ impl<'a> Made<'a> {
                     return Err(no_socket(teller, "LISTEN_FDS", &error));
                 }
             }
+        }
+        Ok(())
+    }
+
+    // Has the name told behind the addresses if nobody can know it.
+    fn tell_name(&mut self, name: &Name) -> Result<(), Refusal> {
+        if name.is_fresh && writeln!(self.said, "export {}", name.text).is_err() {
+            return Err(Refusal::NoMemory);
         }
         Ok(())
     }

@@ -13,8 +13,17 @@ use std::sync::Wait;
 use std::time::Duration;
 use std::{str, thread};
 
-// The request.
-const REQUEST: &str = "GET /status HTTP/1.1\r\nHost: nbdj\r\nConnection: close\r\n\r\n";
+// The requests for figures, and for all to be stored.
+const GET_STATUS: &str = "GET /status HTTP/1.1\r\nHost: nbdj\r\nConnection: close\r\n\r\n";
+
+const POST_STORE: &str =
+    "POST /store HTTP/1.1\r\nHost: nbdj\r\nContent-Length: 0\r\nConnection: close\r\n\r\n";
+
+// The code of a response where another client waits for the same.
+const CONFLICT: u16 = 409;
+
+// The milliseconds from one try to the next while another client waits for that.
+const PAUSE: u64 = 100;
 
 // The most bytes of a response.
 const MOST_BYTES: usize = 65_536;
@@ -34,12 +43,16 @@ pub fn ask<R: Wait + Clock>(
         StatusForm::Json => print_json(rt, socket),
         StatusForm::Lines => print_lines(rt, socket),
         StatusForm::Watch => watch(rt, waits, socket),
+        StatusForm::Store => store(rt, waits, socket),
     };
     match printed {
         Ok(()) => 0,
         Err(error) => {
             teller.tell(socket, format_args!("{error}"));
-            let _ = eprintln!(rt; "nbdj: no figures from {socket}");
+            let _ = match form {
+                StatusForm::Store => eprintln!(rt; "nbdj: not stored by {socket}"),
+                _ => eprintln!(rt; "nbdj: no figures from {socket}"),
+            };
             1
         }
     }
@@ -79,28 +92,62 @@ fn watch<R: Wait + Clock>(rt: &HostRuntime, waits: &R, socket: &str) -> io::Resu
     Ok(())
 }
 
-// The body of a server's answer.
+// Has the server store all that it has accepted, and prints the number of the last write of that. However long that takes it waits.
+fn store<R: Wait + Clock>(rt: &HostRuntime, waits: &R, socket: &str) -> io::Result<()> {
+    for _ in waits.forever() {
+        let (code, body) = exchange(rt, socket, POST_STORE, None)?;
+        if code == CONFLICT {
+            thread::sleep(waits, Duration::from_millis(PAUSE));
+            continue;
+        }
+        let body = expect_ok(code, body)?;
+        let mut output = io::writer(rt);
+        write!(output, "stored {body}")?;
+        return output.flush();
+    }
+    Ok(())
+}
+
+// The figures of a server, as JSON.
 fn fetch(rt: &HostRuntime, socket: &str) -> io::Result<String> {
-    let stream = UnixStream::connect(rt, socket)?;
     let patience = Some(Duration::from_secs(PATIENCE));
+    let (code, body) = exchange(rt, socket, GET_STATUS, patience)?;
+    expect_ok(code, body)
+}
+
+// The body of a response, where its code says that it is what was asked for.
+fn expect_ok(code: u16, body: String) -> io::Result<String> {
+    if code == 200 {
+        Ok(body)
+    } else {
+        Err(io::Error::from(ErrorKind::Other))
+    }
+}
+
+// Sends a request, and gives the code and the body of the response.
+fn exchange(
+    rt: &HostRuntime,
+    socket: &str,
+    request: &str,
+    patience: Option<Duration>,
+) -> io::Result<(u16, String)> {
+    let stream = UnixStream::connect(rt, socket)?;
     stream.set_read_timeout(patience)?;
     stream.set_write_timeout(patience)?;
     let mut output = &stream;
-    output.write_all(REQUEST.as_bytes())?;
+    output.write_all(request.as_bytes())?;
     let mut bytes = Vec::new(rt.alloc());
     let mut input = (&stream).take(MOST_BYTES as u64);
     input.read_to_end(&mut bytes)?;
-    body_of(rt, &bytes)
+    read_response(rt, &bytes)
 }
 
-// The body of a response that is whole and says 200.
-fn body_of(rt: &HostRuntime, bytes: &[u8]) -> io::Result<String> {
+// The code and the body of a response that is whole.
+fn read_response(rt: &HostRuntime, bytes: &[u8]) -> io::Result<(u16, String)> {
     let mut headers = [EMPTY_HEADER_SPAN; 16];
     if let Ok(Status::Complete(head)) = parse_response(bytes, &mut headers) {
-        if head.code == 200 {
-            if let Ok(body) = str::from_utf8(bytes.get(head.len..).unwrap_or(&[])) {
-                return Ok(String::from_str(rt.alloc(), body)?);
-            }
+        if let Ok(body) = str::from_utf8(bytes.get(head.len..).unwrap_or(&[])) {
+            return Ok((head.code, String::from_str(rt.alloc(), body)?));
         }
     }
     Err(io::Error::from(ErrorKind::InvalidData))

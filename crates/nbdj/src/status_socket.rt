@@ -24,6 +24,9 @@ const PATIENCE: u64 = 2_000;
 // The milliseconds from one try to the next where no client could be accepted.
 const PAUSE: u64 = 50;
 
+/// The status of a response where another client has asked for the same.
+pub const BUSY: &str = "409 Conflict";
+
 /// The socket, and what is told there.
 #[derive(Drop)]
 pub struct StatusSocket<'a> {
@@ -32,6 +35,7 @@ pub struct StatusSocket<'a> {
     // The socket of the listener, by which those who wait at it are told of the end.
     wake: UnixStream,
     is_ended: AtomicBool,
+    is_storing: AtomicBool,
     image: &'a str,
     pub meter: &'a Meter,
 }
@@ -50,6 +54,7 @@ impl<'a> StatusSocket<'a> {
             listener,
             wake,
             is_ended: AtomicBool::new(false),
+            is_storing: AtomicBool::new(false),
             image,
             meter,
         })
@@ -122,13 +127,43 @@ impl<'a> StatusSocket<'a> {
                 let body = status_text(alloc, VERSION, self.image, &figures)?;
                 response(alloc, "200 OK", "application/json", &body)
             }
-            Route::Unknown => plain(alloc, "404 Not Found", "/metrics and /status are here\n"),
-            Route::BadMethod => plain(alloc, "405 Method Not Allowed", "only GET is answered\n"),
+            Route::Store => self.store(watched),
+            Route::Unknown => plain(
+                alloc,
+                "404 Not Found",
+                "/metrics, /status and /store are here\n",
+            ),
+            Route::BadMethod => plain(
+                alloc,
+                "405 Method Not Allowed",
+                "GET /metrics, GET /status and POST /store are answered\n",
+            ),
             Route::Malformed => plain(alloc, "400 Bad Request", "not a request of HTTP/1.1\n"),
             Route::TooLong => plain(
                 alloc,
                 "431 Request Header Fields Too Large",
                 "a request has at most 4096 bytes and 32 fields\n",
+            ),
+        }
+    }
+
+    // Has all stored that is accepted by now, and answers once it is. One client at a time may wait for that, so that others get figures.
+    fn store<W: Watched>(&self, watched: &W) -> Result<String, AllocError> {
+        let alloc = self.alloc;
+        if self.is_storing.swap(true, Ordering::SeqCst) {
+            return plain(alloc, BUSY, "another client waits for this\n");
+        }
+        let stored = watched.store();
+        self.is_storing.store(false, Ordering::SeqCst);
+        match stored {
+            Some(number) => {
+                let body = format!(in alloc; "{number}\n")?;
+                plain(alloc, "200 OK", &body)
+            }
+            None => plain(
+                alloc,
+                "503 Service Unavailable",
+                "the device has failed, or memory is refused\n",
             ),
         }
     }

@@ -1,11 +1,10 @@
 //! What `--verbose` tells: why something can't be done.
 
-use disk_model::{Disk, FileDisk};
+use disk_model::FileDisk;
 use front_end::{Invocation, Plan};
 use header_slots::{HeaderFault, read_current};
-use image_files::{FileFault, Holder, header_of};
+use image_files::{FileFault, Holder, Opened, header_of};
 use std::fmt::{self, Display, Formatter};
-use std::fs::File;
 use std::io::IsTerminal;
 
 /// What is told beside the texts that are always there.
@@ -60,10 +59,24 @@ impl Teller {
         }
     }
 
-    /// Tells why a file of this length, whose device has so many bytes, can't be an image.
-    pub fn tell_header(&self, path: &str, length: u64, disk: FileDisk<File>) -> FileDisk<File> {
-        let size = disk.size();
-        let (file, header) = header_of(disk.into_file());
+    /// Tells that the lock of a file is waited for. Nobody else would tell why nothing happens.
+    pub fn tell_wait(&self, path: &str) {
+        // Where it can't be written nobody listens.
+        let _ = eprintln!(self.rt; "nbdj: {path}: another process has locked it; waiting for it");
+    }
+
+    /// Tells why a file that was opened can't be an image.
+    pub fn tell_header(&self, path: &str, opened: Opened) -> Opened {
+        if !self.tells_causes {
+            return opened;
+        }
+        let Opened {
+            file,
+            size,
+            length,
+            locks,
+        } = opened;
+        let (file, header) = header_of(file);
         let mut disk = FileDisk::new(file, size);
         match header.map(|header| header.geometry.device_bytes()) {
             Some(counted) if counted > length => {
@@ -91,7 +104,12 @@ impl Teller {
                 _ => {}
             },
         }
-        disk
+        Opened {
+            file: disk.into_file(),
+            size,
+            length,
+            locks,
+        }
     }
 }
 

@@ -4,7 +4,7 @@ use Rattle.std.proofs.lemmas.List.{append-nil}
 use Rattle.std.specs.List.{AllByRecursion}
 use Rattle.checkpoint.specs.Opening.{IsOpening}
 use Rattle.checkpoint.specs.declared.fault.KeeperFault.TheVariants.{NoMemory}
-use Rattle.checkpoint.specs.laws.FirstSync.{each_left, let_go}
+use Rattle.checkpoint.specs.laws.FirstSync.{each_left}
 use Rattle.device_image.specs.Keeper.{KeeperState}
 use Rattle.device_image.specs.Keeps.{Keeps}
 use Rattle.device_image.specs.Stands.{holes}
@@ -68,15 +68,6 @@ told_talk : (Q : Type 0) (exchanges : List Exchange) (last : Option Message) →
     → AllByRecursion (λ (exchange : Exchange). exchange.answer ≡ Refused Io → Q) exchanges
 told_talk Q exchanges None each = told_exchanges Q exchanges each
 told_talk Q exchanges (Some request) each = told_exchanges Q exchanges (front_of (λ event. TellsFault event → Q) (talk exchanges) (Sent 0 request ∷ []) each)
-
--- the keeper of a device that was opened is let go, where memory for the connections was refused
-pub starved_opening : {D : Type 0} (state : D → State) (keeper : KeeperState D) (before : State) (found : List ℕ) → IsOpening before state (Ok keeper) found → IsOpening before state (Err (NoMemory, keeper.disk)) found
-starved_opening state keeper before found opening =
-    record {
-      fixed = opening.fixed;
-      outcome = tt;
-      crash = let_go before state found keeper NoMemory opening.crash;
-    }
 
 module _ {D : Type 0} (state : D → State) (faults : D → ℕ) (honest : D → Type 0) (law : LeadsLaw state faults honest) (truth : (world : World) → IsReached world → TellsTruth world) (within : (world : World) → IsReached world → IsWithin world)
     (fits_law : (world : World) → IsReached world → world.stage.setting.trusted ≡ true → ReadsFit world.log world.stage.order world.paired world.shown world.stage.setting.image)

@@ -29,7 +29,7 @@ use Rattle.export_model.specs.declared.event.Event.TheVariants.{Sent, Answered, 
 use Rattle.export_model.specs.declared.step.Step.{Step}
 use Rattle.export_model.specs.declared.step.Step.TheVariants as steps
 use Rattle.export_model.specs.declared.step.Step.TheVariants.{Send, Serve, Seal, Append, Publish, Rotate, Copy, Map, Finish, Clean}
-use Rattle.export_model.specs.Log.{edit_asked, is_flush, is_write}
+use Rattle.export_model.specs.Log.{edit_asked, flush_waits, is_flush, is_write}
 use Rattle.export_model.specs.Serve.{Failure, Nothing, OutOfMemory, DeviceFailure, Misread, accepted, answer, answered, held, image_shown, judged, logged, moved, ordered, passed, read_served, ready, shown, state_after, status_served, takes_old_bytes}
 use Rattle.export_model.specs.Shown.{bytes_from, shown_by}
 use Rattle.export_model.specs.Step.{after_step, append, publish, seal, sealed_more, stored_more, clean, in_time, with_generation, without_memory, written}
@@ -217,11 +217,15 @@ module _ (world : World) where
   served_status DeviceFailure request kind = served_shown (image_shown DeviceFailure world.stage) request (inr kind)
   served_status (Misread given image) request kind = served_shown (image_shown (Misread given image) world.stage) request (inr kind)
 
-  served_flush : (request : Message) → request.head.kind ≡ 3 → IsServedAs request (Ok Action.Serve) (logged (moved world 0 (Waiting (last_number world))) Took)
-  served_flush request kind = inr ((λ read. unlike 0 (λ is. cc) read, λ status. unlike 7 (λ is. cc) status), (Took, refl, refl, took_apart))
+  served_flush : (request : Message) (waits : Bool) → request.head.kind ≡ 3 → IsServedAs request (Ok Action.Serve) (logged (moved world 0 (state_after waits (last_number world))) Took)
+  served_flush request waits kind = by waits
     where
       unlike : (other : ℕ) → (3 ≡ other → ⊥) → request.head.kind ≡ other → ⊥
       unlike other apart is = apart (sym kind ∙ is)
+
+      by : (waits : Bool) → IsServedAs request (Ok Action.Serve) (logged (moved world 0 (state_after waits (last_number world))) Took)
+      by true = inr ((λ read. unlike 0 (λ is. cc) read, λ status. unlike 7 (λ is. cc) status), (Took, refl, refl, took_apart))
+      by false = inr ((λ read. unlike 0 (λ is. cc) read, λ status. unlike 7 (λ is. cc) status), (Took, refl, refl, took_apart))
 
   -- a request that asks for a write command where it is none of the others
   abbrev pub AsksElse : Message → Type 0
@@ -231,7 +235,7 @@ module _ (world : World) where
   served_passed failure request writes =
       let Served : World → Type 0 = IsServedAs request (Ok Action.Serve) in
       of_test Served world.stage.stopped _ _ (λ stopped. served_refused request Io)
-      (λ works. of_test Served (is_flush request) _ _ (λ flush. served_flush request (eqb-true request.head.kind 3 flush))
+      (λ works. of_test Served (is_flush request) _ _ (λ flush. served_flush request (flush_waits world.stage.setting.mode) (eqb-true request.head.kind 3 flush))
       (λ other. of_test Served (request.head.kind == 0) _ _ (λ read. served_read failure request (eqb-true request.head.kind 0 read))
       (λ no_read. of_test Served (request.head.kind == 7) _ _ (λ status. served_status failure request (eqb-true request.head.kind 7 status))
       (λ no_status. of_test Served (last_number world == 18446744073709551615) _ _ (λ full. served_refused request NoSpace)

@@ -10,7 +10,7 @@ use Rattle.image_model.specs.declared.geometry.Geometry.{Geometry}
 abbrev pub Suits : Plan → ℕ → Type 0
 Suits (Format path geometry options) extent = extent ≡ device_bytes_of geometry.blocks geometry.area
 Suits (Pipe path options) extent = Unit {0}
-Suits (Serve path addresses status options) extent = ⊥
+Suits (Serve path addresses status name options) extent = ⊥
 Suits (Status socket form) extent = ⊥
 Suits (Recover path is_json) extent = Unit {0}
 Suits (Upgrade path) extent = Unit {0}
@@ -22,7 +22,7 @@ Suits (Refuse path refusal) extent = ⊥
 abbrev pub IfPipe : Plan → (PipeOptions → Type 0) → Type 0
 IfPipe (Format path geometry options) P = Unit {0}
 IfPipe (Pipe path options) P = P options
-IfPipe (Serve path addresses status options) P = Unit {0}
+IfPipe (Serve path addresses status name options) P = Unit {0}
 IfPipe (Status socket form) P = Unit {0}
 IfPipe (Recover path is_json) P = Unit {0}
 IfPipe (Upgrade path) P = Unit {0}
@@ -34,7 +34,7 @@ IfPipe (Refuse path refusal) P = Unit {0}
 abbrev pub IfCheck : Plan → Type 0 → Type 0
 IfCheck (Format path geometry options) P = Unit {0}
 IfCheck (Pipe path options) P = Unit {0}
-IfCheck (Serve path addresses status options) P = Unit {0}
+IfCheck (Serve path addresses status name options) P = Unit {0}
 IfCheck (Status socket form) P = Unit {0}
 IfCheck (Recover path is_json) P = Unit {0}
 IfCheck (Upgrade path) P = Unit {0}
@@ -46,7 +46,7 @@ IfCheck (Refuse path refusal) P = Unit {0}
 abbrev pub IfFormat : Plan → (Geometry → Type 0) → Type 0
 IfFormat (Format path geometry options) P = P geometry
 IfFormat (Pipe path options) P = Unit {0}
-IfFormat (Serve path addresses status options) P = Unit {0}
+IfFormat (Serve path addresses status name options) P = Unit {0}
 IfFormat (Status socket form) P = Unit {0}
 IfFormat (Recover path is_json) P = Unit {0}
 IfFormat (Upgrade path) P = Unit {0}
@@ -58,7 +58,7 @@ IfFormat (Refuse path refusal) P = Unit {0}
 abbrev pub IfRecover : Plan → Type 0 → Type 0
 IfRecover (Format path geometry options) P = Unit {0}
 IfRecover (Pipe path options) P = Unit {0}
-IfRecover (Serve path addresses status options) P = Unit {0}
+IfRecover (Serve path addresses status name options) P = Unit {0}
 IfRecover (Status socket form) P = Unit {0}
 IfRecover (Recover path is_json) P = P
 IfRecover (Upgrade path) P = Unit {0}
@@ -70,7 +70,7 @@ IfRecover (Refuse path refusal) P = Unit {0}
 abbrev pub IfUpgrade : Plan → Type 0 → Type 0
 IfUpgrade (Format path geometry options) P = Unit {0}
 IfUpgrade (Pipe path options) P = Unit {0}
-IfUpgrade (Serve path addresses status options) P = Unit {0}
+IfUpgrade (Serve path addresses status name options) P = Unit {0}
 IfUpgrade (Status socket form) P = Unit {0}
 IfUpgrade (Recover path is_json) P = Unit {0}
 IfUpgrade (Upgrade path) P = P

@@ -15,7 +15,8 @@ pub struct Promise {
     /// What the write commands ask for, in the order of their numbers.
     pub edits: Vec<Edit>,
     /// So many of the first of them are there: all that were answered before a FLUSH was sent that is answered Ok, and all
-    /// that wait until they are stored and are answered Ok.
+    /// that wait until they are stored and are answered Ok. In ordered an answer promises nothing of what is stored: they are those
+    /// that the last opening found.
     pub covered: u64,
     // Whether each upgrade found what was promised before it.
     kept: bool,
@@ -209,9 +210,17 @@ impl Reading {
             _ => return,
         };
         match open.head.kind {
-            FLUSH => self.covered = self.covered.max(open.before),
+            FLUSH => self.flushed(open.before),
             WRITE | TRIM | WRITE_ZEROES => self.carried_out(open.head, open.number),
             _ => {}
+        }
+    }
+
+    // A FLUSH was answered Ok, before which all up to this number were answered.
+    fn flushed(&mut self, before: u64) {
+        match self.mode {
+            Mode::Writeback | Mode::Writethrough => self.covered = self.covered.max(before),
+            Mode::Ordered => {}
         }
     }
 
@@ -226,7 +235,11 @@ impl Reading {
 
 // Whether a write command is answered once it is stored.
 fn is_durable(mode: Mode, head: RequestHead) -> bool {
-    mode == Mode::Writethrough || head.flags & CommandFlags::FUA.bits() != 0
+    match mode {
+        Mode::Writeback => head.flags & CommandFlags::FUA.bits() != 0,
+        Mode::Writethrough => true,
+        Mode::Ordered => false,
+    }
 }
 
 // Adds an edit behind the others, and gives its number.

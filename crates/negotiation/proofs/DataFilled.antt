@@ -45,7 +45,7 @@ failed old new input left output outcome said same kept tell =
       hears = hears_none old;
       begins = subst (λ (t : List ℕ). t ++ [] ≡ []) (sym (no_greeting old.standing old.standing said)) refl;
       written = appends_none output;
-      size = refl;
+      offer = refl;
       said = λ b. b;
       behind = λ b. (refl, refl, b);
       tells = tell;
@@ -85,7 +85,7 @@ module _ (old new : SessionState) (input left : Option (List ℕ)) (count : ℕ)
     hears = fills.feeds.hears;
     begins = sym fills.feeds.written;
     written = appends_none output;
-    size = fills.size;
+    offer = fills.offer;
     said = fills.feeds.said;
     behind = fills.feeds.behind;
     tells = tell;

@@ -1,4 +1,5 @@
 -- What is read straight into the room of a request's data.
+use Rattle.negotiation.specs.Answered.{Offer}
 use Rattle.std.proofs.Common.{ℕ, List, [], Option, refl, ap}
 use Rattle.std.specs.Option.{option_map}
 use Rattle.nbd_wire.specs.Stream.{Fills as FillsReader, Reader}
@@ -23,13 +24,13 @@ hands_filled old new input left count fills = record {
   end = fills.end;
 }
 
-pub fills_session : (size : ℕ) (agreed : Agreed) (old new : Standing) (input left : Option (List ℕ)) (count : ℕ) → HandsNone old input left count new → Fills (session_at size agreed old) input left count (session_at size agreed new)
-fills_session size agreed old new input left count fills = record {
+pub fills_session : (offer : Offer) (agreed : Agreed) (old new : Standing) (input left : Option (List ℕ)) (count : ℕ) → HandsNone old input left count new → Fills (session_at offer agreed old) input left count (session_at offer agreed new)
+fills_session offer agreed old new input left count fills = record {
   piece = fills.piece;
   len = fills.len;
   read = fills.read;
-  feeds = fed_behind size agreed old new [] [] fills.piece [] fills.was refl fills.hands;
-  size = refl;
+  feeds = fed_behind offer agreed old new [] [] fills.piece [] fills.was refl fills.hands;
+  offer = refl;
   said = fills.said;
   going = fills.going;
   end = fills.end;

@@ -94,7 +94,7 @@ tells old new between requests unsent unheard (Err ProtocolEnd) same sent whole 
     elim whole [ inl end ↦ absurd (other_end (end_of new.standing) end.0 fault) | inr all ↦ (same, sent, all.0, all.1, fault) ]
 tells old new between requests unsent unheard (Err IoFault) same sent whole fault first = tt
 
-module _ (old new : SessionState) (piece due left : List ℕ) (fed : Result (Vec Message) End) (output made : Option (List ℕ)) (size : new.size ≡ old.size) (feeds : Feeds old piece [] due (handed fed) new) where
+module _ (old new : SessionState) (piece due left : List ℕ) (fed : Result (Vec Message) End) (output made : Option (List ℕ)) (offer : new.offer ≡ old.offer) (feeds : Feeds old piece [] due (handed fed) new) where
   -- what was due is written
   pub took : IfErr fed (λ end. end_of new.standing ≡ Some end) → ((end : End) → end_of new.standing ≡ Some end → IfOk fed (λ r. 0 < vec_len r)) → Writes output made due left true → left ≡ []
       → Hearing old (λ bytes. bytes ≡ piece) output made fed new
@@ -112,7 +112,7 @@ module _ (old new : SessionState) (piece due left : List ℕ) (fed : Result (Vec
         hears = feeds.hears;
         begins = sym feeds.written ∙ writes.begins;
         written = writes.written;
-        size = size;
+        offer = offer;
         said = feeds.said;
         behind = feeds.behind;
         tells = tells old new feeds.between (handed fed) writes.unsent feeds.rest fed refl sent feeds.whole fault first;
@@ -132,7 +132,7 @@ module _ (old new : SessionState) (piece due left : List ℕ) (fed : Result (Vec
     hears = feeds.hears;
     begins = sym feeds.written ∙ writes.begins;
     written = writes.written;
-    size = size;
+    offer = offer;
     said = feeds.said;
     behind = feeds.behind;
     tells = tell (handed fed) writes.unsent feeds.rest feeds.between;
@@ -156,11 +156,11 @@ none_of (Some end) not = absurd (not end refl)
 -- ---- one piece after another
 
 -- what is read later of an open session is timely too
-pub timely_on : (old now : SessionState) (stream bytes : List ℕ) (turns : List Turn) (requests : List Message) → now.size ≡ old.size → HearsOn old stream turns requests now → (stream ≡ []) ⊎ IsTimely old stream → (bytes ≡ []) ⊎ IsTimely now bytes
+pub timely_on : (old now : SessionState) (stream bytes : List ℕ) (turns : List Turn) (requests : List Message) → now.offer ≡ old.offer → HearsOn old stream turns requests now → (stream ≡ []) ⊎ IsTimely old stream → (bytes ≡ []) ⊎ IsTimely now bytes
     → (stream ++ bytes ≡ []) ⊎ IsTimely old (stream ++ bytes)
-timely_on old now stream bytes turns requests size hears first (inl none) =
+timely_on old now stream bytes turns requests offer hears first (inl none) =
     subst (λ (b : List ℕ). (b ≡ []) ⊎ IsTimely old b) (sym (ap (λ (b : List ℕ). stream ++ b) none ∙ append-nil stream)) first
-timely_on old now stream bytes turns requests size hears first (inr timely) = inr (record {
+timely_on old now stream bytes turns requests offer hears first (inr timely) = inr (record {
   front = stream ++ timely.front;
   last = timely.last;
   turns = turns ++ timely.turns;
@@ -168,7 +168,7 @@ timely_on old now stream bytes turns requests size hears first (inr timely) = in
   between = timely.between;
   parts = ap (λ (b : List ℕ). stream ++ b) timely.parts ∙ sym (append_assoc stream timely.front timely.last);
   short = timely.short;
-  hears = hears_then old now timely.between stream timely.front turns timely.turns requests timely.requests size hears timely.hears;
+  hears = hears_then old now timely.between stream timely.front turns timely.turns requests timely.requests offer hears timely.hears;
   going = timely.going;
 })
 
@@ -184,7 +184,7 @@ pub record Heard (old : SessionState) (input mid output made : Option (List ℕ)
   pub hears : HearsOn old stream turns [] now
   pub written : Appends output made (greeting_due old.standing now.standing ++ answers_text turns)
   pub said : IsSaid now.standing
-  pub size : now.size ≡ old.size
+  pub offer : now.offer ≡ old.offer
   pub behind : IsBehind old.standing → (turns ≡ []) × (now.agreed ≡ old.agreed) × IsBehind now.standing
 
 pub heard_none : (old : SessionState) (input output : Option (List ℕ)) → IsSaid old.standing → Heard old input input output output old
@@ -195,7 +195,7 @@ heard_none old input output said = record {
   hears = hears_none old;
   written = subst (λ (t : List ℕ). Appends output output (t ++ [])) (sym (no_greeting old.standing old.standing said)) (appends_none output);
   said = said;
-  size = refl;
+  offer = refl;
   behind = λ b. (refl, refl, b);
 }
 
@@ -220,7 +220,7 @@ went_on old new IsRead input mid output made given hearing read none few said =
             (sym (ap (λ (now : SessionState). greeting_due old.standing now.standing ++ answers_text hearing.turns) all.1 ∙ hearing.begins ∙ ap (λ (t : List ℕ). hearing.text ++ t) sent ∙ append-nil hearing.text))
             hearing.written;
         said = said;
-        size = hearing.size;
+        offer = hearing.offer;
         behind = λ b. subst (λ (now : SessionState). (hearing.turns ≡ []) × (now.agreed ≡ old.agreed) × IsBehind now.standing) (sym all.1) (hearing.behind b);
       }
     ]
@@ -242,8 +242,8 @@ module _ (old now : SessionState) (input mid output made : Option (List ℕ)) (h
     read =
         let more = read (hearing.stream ++ hearing.unheard) hearing.read in
         subst (ReadsOn old input left) (sym (append_assoc heard.stream hearing.stream hearing.unheard))
-        (consumes_on input mid left heard.stream (hearing.stream ++ hearing.unheard) heard.read.0 more.0, timely_on old now heard.stream (hearing.stream ++ hearing.unheard) heard.turns [] heard.size heard.hears heard.read.1 more.1);
-    hears = hears_then old now hearing.between heard.stream hearing.stream heard.turns hearing.turns [] hearing.requests heard.size heard.hears hearing.hears;
+        (consumes_on input mid left heard.stream (hearing.stream ++ hearing.unheard) heard.read.0 more.0, timely_on old now heard.stream (hearing.stream ++ hearing.unheard) heard.turns [] heard.offer heard.hears heard.read.1 more.1);
+    hears = hears_then old now hearing.between heard.stream hearing.stream heard.turns hearing.turns [] hearing.requests heard.offer heard.hears hearing.hears;
     begins =
         let greeting = greeting_due old.standing now.standing in
         let rest : answers_text hearing.turns ≡ hearing.text ++ hearing.unsent =
@@ -252,7 +252,7 @@ module _ (old now : SessionState) (input mid output made : Option (List ℕ)) (h
         ∙ ap (λ (t : List ℕ). greeting ++ t) (answers-append heard.turns hearing.turns) ∙ sym (append_assoc greeting (answers_text heard.turns) (answers_text hearing.turns))
         ∙ ap (λ (t : List ℕ). said_text ++ t) rest ∙ sym (append_assoc said_text hearing.text hearing.unsent);
     written = appends_on output made later said_text hearing.text heard.written hearing.written;
-    size = hearing.size ∙ heard.size;
+    offer = hearing.offer ∙ heard.offer;
     said = λ b. hearing.said heard.said;
     behind = λ b.
         let first = heard.behind b in
@@ -271,11 +271,11 @@ module _ (old now : SessionState) (input mid output made : Option (List ℕ)) (h
     between = now;
     text = said_text;
     unsent = [];
-    read = (consumes_on input mid left heard.stream [] heard.read.0 none, timely_on old now heard.stream [] heard.turns [] heard.size heard.hears heard.read.1 (inl refl));
+    read = (consumes_on input mid left heard.stream [] heard.read.0 none, timely_on old now heard.stream [] heard.turns [] heard.offer heard.hears heard.read.1 (inl refl));
     hears = heard.hears;
     begins = sym (append-nil said_text);
     written = heard.written;
-    size = heard.size;
+    offer = heard.offer;
     said = λ b. heard.said;
     behind = heard.behind;
     tells = tell;
@@ -320,7 +320,7 @@ hearing_read old new IsRead IsTaken output made outcome hearing read = record {
   hears = hearing.hears;
   begins = hearing.begins;
   written = hearing.written;
-  size = hearing.size;
+  offer = hearing.offer;
   said = hearing.said;
   behind = hearing.behind;
   tells = hearing.tells;

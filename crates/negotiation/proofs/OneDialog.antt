@@ -19,8 +19,8 @@ same_exchanges (exchange ∷ exchanges) (other ∷ others) unanswered left reque
     ((λ i. record { request = request i; reply = reply i } ∷ rest.0 i), rest.1)
 
 pub one_dialog_lem : OneDialog
-one_dialog_lem size stream outcome other exchanges others unanswered left text same p q replies =
-    let (turns, requests, agreed, standing) = one_hearing_lem size stream p.turns q.turns outcome other p.hears q.hears in
+one_dialog_lem offer stream outcome other exchanges others unanswered left text same p q replies =
+    let (turns, requests, agreed, standing) = one_hearing_lem offer stream p.turns q.turns outcome other p.hears q.hears in
     let both = same_exchanges exchanges others unanswered left (sym p.requests ∙ requests ∙ q.requests) replies in
     let texts : dialog p.turns outcome.agreed.flags exchanges ≡ dialog q.turns other.agreed.flags others = λ i. dialog (turns i) (agreed i).flags (both.0 i) in
     (both.0, both.1, p.whole ∙ texts ∙ sym q.whole)

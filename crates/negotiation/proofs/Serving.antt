@@ -1,4 +1,5 @@
 -- A whole session, from its handshake and what came behind it.
+use Rattle.negotiation.specs.Answered.{Offer}
 use Rattle.std.proofs.Common.{◌≡◌, ℕ, List, [], ◌∷◌, ◌++◌, ◌⊎◌, Option, Result, Ok, Err, inl, inr, refl, sym, ap, subst, ◌∙◌, append_assoc}
 use Rattle.std.proofs.lemmas.List.{append-nil}
 use Rattle.std.specs.Global.{Vec}
@@ -29,15 +30,15 @@ follows_silent behind.Transmission agreed rest turns outcome P is not p = subst 
 follows_silent behind.End agreed rest turns outcome P is not p = let same : ended ≡ silent = sym p.1.2 ∙ is in cc same
 follows_silent behind.Fault agreed rest turns outcome P is not p = let same : broken ≡ silent = sym p.1.2 ∙ is in cc same
 
-negotiates_silent : (size : ℕ) (agreed : Agreed) (stream : List ℕ) (turns : List Turn) (outcome : Outcome) → outcome.standing ≡ silent → Negotiates size agreed stream turns outcome → ⊥
-negotiates_silent size agreed stream [] outcome is p = subst (λ (s : Standing). Leaves s stream) is p.2
-negotiates_silent size agreed stream (turn ∷ turns) outcome is p =
-    follows_silent turn.answer.next turn.answer.agreed p.1 turns outcome (Negotiates size turn.answer.agreed p.1 turns outcome) is
-    (negotiates_silent size turn.answer.agreed p.1 turns outcome is) p.4
+negotiates_silent : (offer : Offer) (agreed : Agreed) (stream : List ℕ) (turns : List Turn) (outcome : Outcome) → outcome.standing ≡ silent → Negotiates offer agreed stream turns outcome → ⊥
+negotiates_silent offer agreed stream [] outcome is p = subst (λ (s : Standing). Leaves s stream) is p.2
+negotiates_silent offer agreed stream (turn ∷ turns) outcome is p =
+    follows_silent turn.answer.next turn.answer.agreed p.1 turns outcome (Negotiates offer turn.answer.agreed p.1 turns outcome) is
+    (negotiates_silent offer turn.answer.agreed p.1 turns outcome is) p.4
 
-no_turns : (size : ℕ) (stream : List ℕ) (turns : List Turn) (outcome : Outcome) → outcome.standing ≡ silent → Hears size stream turns outcome → turns ≡ []
-no_turns size stream turns outcome is (inl p) = p.none
-no_turns size stream turns outcome is (inr p) = absurd (negotiates_silent size (agreed_with p.client plain) p.rest turns outcome is p.negotiates)
+no_turns : (offer : Offer) (stream : List ℕ) (turns : List Turn) (outcome : Outcome) → outcome.standing ≡ silent → Hears offer stream turns outcome → turns ≡ []
+no_turns offer stream turns outcome is (inl p) = p.none
+no_turns offer stream turns outcome is (inr p) = absurd (negotiates_silent offer (agreed_with p.client plain) p.rest turns outcome is p.negotiates)
 
 -- of what is due for the greeting and the replies the text is a beginning of the handshake's
 record Says (turns : List Turn) (text unsent : List ℕ) (between : Standing) : Type 0 where
@@ -63,29 +64,29 @@ says broken turns text unsent none begins = says_all broken turns text unsent tt
 says exhausted turns text unsent none begins = says_all exhausted turns text unsent tt begins
 
 -- nothing was heard yet
-hears_silent : (size : ℕ) → Hears size [] [] (outcome_of [] (begun size))
-hears_silent size = inl (record { none = refl; requests = refl; agreed = refl; leaves = refl })
+hears_silent : (offer : Offer) → Hears offer [] [] (outcome_of [] (begun offer))
+hears_silent offer = inl (record { none = refl; requests = refl; agreed = refl; leaves = refl })
 
-module _ {P : Type 0} (allows : P → Message → SessionFlags → P → Reply → Type 0) (size : ℕ) (pass : P) (input output : Option (List ℕ)) where
+module _ {P : Type 0} (allows : P → Message → SessionFlags → P → Reply → Type 0) (offer : Offer) (pass : P) (input output : Option (List ℕ)) where
   -- there was no memory to begin with
-  pub served_nothing : (end : Result (Unit {0}) End) → IsErrAnd end IsEarly → IsServed allows size pass pass input input output output end
+  pub served_nothing : (end : Result (Unit {0}) End) → IsErrAnd end IsEarly → IsServed allows offer pass pass input input output output end
   served_nothing end early = record {
     stream = [];
     unheard = [];
-    outcome = outcome_of [] (begun size);
+    outcome = outcome_of [] (begun offer);
     exchanges = [];
     unanswered = [];
     text = [];
     unsent = dialog [] plain.flags [];
     read = (consumes_none input, inl refl);
-    owed = record { turns = []; hears = hears_silent size; requests = refl; whole = refl };
+    owed = record { turns = []; hears = hears_silent offer; requests = refl; whole = refl };
     steps = refl;
     written = appends_none output;
     ends = early_ends end early silent [] (dialog [] plain.flags []) [] input;
   }
 
   module _ (mid made : Option (List ℕ)) (new : SessionState) where
-    ends_with : (end : End) (h : Hearing (begun size) (ReadsOn (begun size) input mid) output made (Err end) new) (unsent : List ℕ) → (IsSaid h.between.standing → unsent ≡ h.unsent) → IsSaid new.standing → (end ≡ PeerClosed → IsAtEnd mid)
+    ends_with : (end : End) (h : Hearing (begun offer) (ReadsOn (begun offer) input mid) output made (Err end) new) (unsent : List ℕ) → (IsSaid h.between.standing → unsent ≡ h.unsent) → IsSaid new.standing → (end ≡ PeerClosed → IsAtEnd mid)
         → Ends h.between.standing h.unheard unsent h.requests mid (Err end)
     ends_with NoMemory h unsent left said closed = tt
     ends_with PeerClosed h unsent left said closed =
@@ -99,10 +100,10 @@ module _ {P : Type 0} (allows : P → Message → SessionFlags → P → Reply �
     ends_with IoFault h unsent left said closed = tt
 
     -- the handshake ended otherwise than its client asked for
-    pub served_handshake : (end : End) (h : Hearing (begun size) (ReadsOn (begun size) input mid) output made (Err end) new) → IsSaid new.standing → (end ≡ PeerClosed → IsAtEnd mid) → IsServed allows size pass pass input mid output made (Err end)
+    pub served_handshake : (end : End) (h : Hearing (begun offer) (ReadsOn (begun offer) input mid) output made (Err end) new) → IsSaid new.standing → (end ≡ PeerClosed → IsAtEnd mid) → IsServed allows offer pass pass input mid output made (Err end)
     served_handshake end h said closed =
-        let heard = h.hears [] [] [] (hears_silent size) in
-        let said_so = says h.between.standing h.turns h.text h.unsent (λ is. no_turns size h.stream h.turns (outcome_of h.requests h.between) is heard) h.begins in
+        let heard = h.hears [] [] [] (hears_silent offer) in
+        let said_so = says h.between.standing h.turns h.text h.unsent (λ is. no_turns offer h.stream h.turns (outcome_of h.requests h.between) is heard) h.begins in
         record {
           stream = h.stream;
           unheard = h.unheard;
@@ -118,15 +119,15 @@ module _ {P : Type 0} (allows : P → Message → SessionFlags → P → Reply �
           ends = ends_with end h said_so.left said_so.all said closed;
         }
 
-    module _ (given : Vec Message) (h : Hearing (begun size) (ReadsOn (begun size) input mid) output made (Ok given) new) where
+    module _ (given : Vec Message) (h : Hearing (begun offer) (ReadsOn (begun offer) input mid) output made (Ok given) new) where
       -- what transmission goes on from
       abbrev pub base : SessionState
-      base = record { size = size; agreed = h.between.agreed; standing = h.between.standing }
+      base = record { offer = offer; agreed = h.between.agreed; standing = h.between.standing }
 
       same_base : new ≡ h.between → new ≡ base
       same_base same =
-          let is : h.between.size ≡ size = sym (ap (λ (s : SessionState). s.size) same) ∙ h.size in
-          same ∙ (λ i. record { size = is i; agreed = h.between.agreed; standing = h.between.standing })
+          let is : h.between.offer ≡ offer = sym (ap (λ (s : SessionState). s.offer) same) ∙ h.offer in
+          same ∙ (λ i. record { offer = is i; agreed = h.between.agreed; standing = h.between.standing })
 
       pub stands : Stands h.unheard new base
       stands = elim h.tells.2 [ inl all ↦ inl (all.0, same_base all.1) | inr end ↦ inr end.0 ]
@@ -138,17 +139,17 @@ module _ {P : Type 0} (allows : P → Message → SessionFlags → P → Reply �
       agreed = elim h.tells.2 [ inl all ↦ ap (λ (s : SessionState). s.agreed) all.1 | inr end ↦ end.2 ]
 
       -- nothing is read behind an end of the handshake
-      timely : (taken : List ℕ) → (taken ≡ []) ⊎ ((h.unheard ≡ []) × IsTimely base taken) → ((h.stream ++ h.unheard) ++ taken ≡ []) ⊎ IsTimely (begun size) ((h.stream ++ h.unheard) ++ taken)
-      timely taken (inl none) = subst (λ (b : List ℕ). (b ≡ []) ⊎ IsTimely (begun size) b) (sym (ap (λ (b : List ℕ). (h.stream ++ h.unheard) ++ b) none ∙ append-nil (h.stream ++ h.unheard))) h.read.1
+      timely : (taken : List ℕ) → (taken ≡ []) ⊎ ((h.unheard ≡ []) × IsTimely base taken) → ((h.stream ++ h.unheard) ++ taken ≡ []) ⊎ IsTimely (begun offer) ((h.stream ++ h.unheard) ++ taken)
+      timely taken (inl none) = subst (λ (b : List ℕ). (b ≡ []) ⊎ IsTimely (begun offer) b) (sym (ap (λ (b : List ℕ). (h.stream ++ h.unheard) ++ b) none ∙ append-nil (h.stream ++ h.unheard))) h.read.1
       timely taken (inr both) =
           let all : h.stream ++ h.unheard ≡ h.stream = ap (λ (b : List ℕ). h.stream ++ b) both.0 ∙ append-nil h.stream in
-          timely_on (begun size) base (h.stream ++ h.unheard) taken h.turns h.requests refl (subst (λ (b : List ℕ). HearsOn (begun size) b h.turns h.requests base) (sym all) h.hears) h.read.1 (inr both.1)
+          timely_on (begun offer) base (h.stream ++ h.unheard) taken h.turns h.requests refl (subst (λ (b : List ℕ). HearsOn (begun offer) b h.turns h.requests base) (sym all) h.hears) h.read.1 (inr both.1)
 
       -- and what came of it
-      pub served_whole : (later : P) (left told : Option (List ℕ)) (end : Result (Unit {0}) End) → IsBehind new.standing → Transmits allows new.agreed.flags base h.unheard given.items pass later mid left made told end → IsServed allows size pass later input left output told end
+      pub served_whole : (later : P) (left told : Option (List ℕ)) (end : Result (Unit {0}) End) → IsBehind new.standing → Transmits allows new.agreed.flags base h.unheard given.items pass later mid left made told end → IsServed allows offer pass later input left output told end
       served_whole later left told end b t =
-          let heard = h.hears [] [] [] (hears_silent size) in
-          let said_so = says h.between.standing h.turns h.text h.unsent (λ is. no_turns size h.stream h.turns (outcome_of h.requests h.between) is heard) h.begins in
+          let heard = h.hears [] [] [] (hears_silent offer) in
+          let said_so = says h.between.standing h.turns h.text h.unsent (λ is. no_turns offer h.stream h.turns (outcome_of h.requests h.between) is heard) h.begins in
           let said : handshake_text h.turns ≡ h.text = said_so.begins ∙ ap (λ (x : List ℕ). h.text ++ x) (said_so.all (behind_said h.between.standing (over b)) ∙ h.tells.1) ∙ append-nil h.text in
           let flags : new.agreed.flags ≡ t.between.agreed.flags = ap (λ (a : Agreed). a.flags) (agreed ∙ sym t.agreed) in
           let read : (h.stream ++ h.unheard) ++ t.taken ≡ (h.stream ++ t.stream) ++ t.unheard =
@@ -161,10 +162,10 @@ module _ {P : Type 0} (allows : P → Message → SessionFlags → P → Reply �
             unanswered = t.unanswered;
             text = h.text ++ t.text;
             unsent = t.unsent;
-            read = subst (ReadsOn (begun size) input left) read (consumes_on input mid left (h.stream ++ h.unheard) t.taken h.read.0 t.read, timely t.taken t.timely);
+            read = subst (ReadsOn (begun offer) input left) read (consumes_on input mid left (h.stream ++ h.unheard) t.taken h.read.0 t.read, timely t.taken t.timely);
             owed = record {
               turns = h.turns;
-              hears = subst (λ (turns : List Turn). Hears size (h.stream ++ t.stream) turns (outcome_of (h.requests ++ t.more) t.between)) (append-nil h.turns) (t.hears h.stream h.turns h.requests heard);
+              hears = subst (λ (turns : List Turn). Hears offer (h.stream ++ t.stream) turns (outcome_of (h.requests ++ t.more) t.between)) (append-nil h.turns) (t.hears h.stream h.turns h.requests heard);
               requests = ap (λ (r : List Message). r ++ t.more) h.tells.0 ∙ t.requests;
               whole = sym (ap (λ (x : List ℕ). x ++ talk_text t.between.agreed.flags t.exchanges) said ∙ ap (λ (x : List ℕ). h.text ++ x) (ap (λ (f : SessionFlags). talk_text f t.exchanges) (sym flags) ∙ t.begins) ∙ sym (append_assoc h.text t.text t.unsent));
             };

@@ -13,7 +13,7 @@ use Rattle.option_wire.specs.Handshake.{client_flags_bytes, greeting_bytes}
 use Rattle.option_wire.specs.Head.{option_head}
 use Rattle.option_wire.specs.declared.head.OptionHead.{OptionHead}
 use Rattle.option_wire.specs.declared.reply.OptionError.TheVariants as errors
-use Rattle.negotiation.specs.Answered.{Answered, IsAnswered, answer_bytes, refusal_of}
+use Rattle.negotiation.specs.Answered.{Offer, Answered, IsAnswered, answer_bytes, refusal_of}
 use Rattle.negotiation.specs.declared.end.End.{End}
 use Rattle.negotiation.specs.declared.end.End.TheVariants.{NoMemory}
 use Rattle.negotiation.specs.declared.stage.Stage.{Stage}
@@ -49,25 +49,25 @@ greeted ended between new before after greets said = greets.1 ∙ sym (append-ni
 greeted broken between new before after greets said = greets.1 ∙ sym (append-nil before)
 greeted exhausted between new before after greets said = greets.1 ∙ sym (append-nil before)
 
-stays : (size : ℕ) (agreed : Agreed) (old new : Standing) → new ≡ old → HearsOn (session_at size agreed old) [] [] [] (session_at size agreed new)
-stays size agreed old new same =
-    subst (λ (s : Standing). HearsOn (session_at size agreed old) [] [] [] (session_at size agreed s)) (sym same) (hears_none (session_at size agreed old))
+stays : (offer : Offer) (agreed : Agreed) (old new : Standing) → new ≡ old → HearsOn (session_at offer agreed old) [] [] [] (session_at offer agreed new)
+stays offer agreed old new same =
+    subst (λ (s : Standing). HearsOn (session_at offer agreed old) [] [] [] (session_at offer agreed s)) (sym same) (hears_none (session_at offer agreed old))
 
 -- what was read is the same
-pub greets_hears : (size : ℕ) (agreed : Agreed) (old new : Standing) (before after : List ℕ) → Greets old new before after → HearsOn (session_at size agreed old) [] [] [] (session_at size agreed new)
-greets_hears size agreed silent new before after greets =
-    subst (λ (s : Standing). HearsOn (session_at size agreed silent) [] [] [] (session_at size agreed s)) (sym greets.0)
-    (hears_on size [] [] [] agreed agreed silent (in_flags [])
+pub greets_hears : (offer : Offer) (agreed : Agreed) (old new : Standing) (before after : List ℕ) → Greets old new before after → HearsOn (session_at offer agreed old) [] [] [] (session_at offer agreed new)
+greets_hears offer agreed silent new before after greets =
+    subst (λ (s : Standing). HearsOn (session_at offer agreed silent) [] [] [] (session_at offer agreed s)) (sym greets.0)
+    (hears_on offer [] [] [] agreed agreed silent (in_flags [])
     (record { leaves = λ text p. absurd p; asks = λ text asked p. absurd p; ends = λ e. cc; breaks = λ e. cc })
     (λ text p e. inl (record { none = refl; requests = refl; agreed = e; leaves = (omega arith, append-nil text ∙ p) })))
-greets_hears size agreed (in_flags bytes) new before after greets = stays size agreed (in_flags bytes) new greets.0
-greets_hears size agreed (in_head bytes) new before after greets = stays size agreed (in_head bytes) new greets.0
-greets_hears size agreed (in_option code length bytes) new before after greets = stays size agreed (in_option code length bytes) new greets.0
-greets_hears size agreed (in_discard code missing) new before after greets = stays size agreed (in_discard code missing) new greets.0
-greets_hears size agreed (in_requests reader) new before after greets = stays size agreed (in_requests reader) new greets.0
-greets_hears size agreed ended new before after greets = stays size agreed ended new greets.0
-greets_hears size agreed broken new before after greets = stays size agreed broken new greets.0
-greets_hears size agreed exhausted new before after greets = stays size agreed exhausted new greets.0
+greets_hears offer agreed (in_flags bytes) new before after greets = stays offer agreed (in_flags bytes) new greets.0
+greets_hears offer agreed (in_head bytes) new before after greets = stays offer agreed (in_head bytes) new greets.0
+greets_hears offer agreed (in_option code length bytes) new before after greets = stays offer agreed (in_option code length bytes) new greets.0
+greets_hears offer agreed (in_discard code missing) new before after greets = stays offer agreed (in_discard code missing) new greets.0
+greets_hears offer agreed (in_requests reader) new before after greets = stays offer agreed (in_requests reader) new greets.0
+greets_hears offer agreed ended new before after greets = stays offer agreed ended new greets.0
+greets_hears offer agreed broken new before after greets = stays offer agreed broken new greets.0
+greets_hears offer agreed exhausted new before after greets = stays offer agreed exhausted new greets.0
 
 -- ---- what stays as it is
 
@@ -93,7 +93,7 @@ hands_broken piece = record {
   parts = sym (append-nil piece);
   said = tt;
   behind = λ b. tt;
-  hears = λ size agreed. hears_on size piece [] [] agreed agreed broken broken
+  hears = λ offer agreed. hears_on offer piece [] [] agreed agreed broken broken
       (record { leaves = λ text p. (refl, refl, broken_stays text piece p); asks = λ text asked p. absurd p; ends = λ e. cc; breaks = λ e. (refl, (refl, refl, refl)) })
       (λ text p e. inl (record {
         none = refl;
@@ -112,7 +112,7 @@ hands_ended piece = record {
   parts = sym (append-nil piece);
   said = tt;
   behind = λ b. tt;
-  hears = λ size agreed. hears_on size piece [] [] agreed agreed ended ended
+  hears = λ offer agreed. hears_on offer piece [] [] agreed agreed ended ended
       (record {
         leaves = λ text p. absurd p;
         asks = λ text asked p. (
@@ -141,7 +141,7 @@ hands_nothing standing piece said none = record {
   parts = none;
   said = said;
   behind = λ b. b;
-  hears = λ size agreed. hears_none (session_at size agreed standing);
+  hears = λ offer agreed. hears_none (session_at offer agreed standing);
   whole = inr (refl, refl);
 }
 
@@ -153,7 +153,7 @@ hands_exhausted piece = record {
   parts = refl;
   said = tt;
   behind = λ b. tt;
-  hears = λ size agreed. hears_none (session_at size agreed exhausted);
+  hears = λ offer agreed. hears_none (session_at offer agreed exhausted);
   whole = inl (refl, inl refl);
 }
 
@@ -213,13 +213,13 @@ held_still stages.Exhausted sound other = omega arith
 pub most_at_least : (code : ℕ) → kept_limit ≤ most_bytes code
 most_at_least code = elim (eqb code 1) as (λ b. 65536 ≤ cond b 65536 33554432) [ true ↦ omega arith | false ↦ omega arith ]
 
-module _ (agreed : Agreed) (size code : ℕ) (fits : code < 2 ^ 32) (before after : List ℕ) where
+module _ (agreed : Agreed) (offer : Offer) (code : ℕ) (fits : code < 2 ^ 32) (before after : List ℕ) where
   one_reply : (answer : Answered) (talk : Talk) → Settles code answer before after talk → after ≡ before ++ answers_text (record { code = code; answer = answer } ∷ [])
   one_reply answer talk settles = settles.written ∙ ap (λ (t : List ℕ). before ++ t) (sym (append-nil (answer_bytes code answer)))
 
   -- an option whose data were kept
-  pub closed : (content : List ℕ) (answer : Answered) → length content ≤ kept_limit → IsAnswered agreed size code content answer → (talk : Talk) → Settles code answer before after talk
-      → Step agreed size (IsData code content) before after talk
+  pub closed : (content : List ℕ) (answer : Answered) → length content ≤ kept_limit → IsAnswered agreed offer code content answer → (talk : Talk) → Settles code answer before after talk
+      → Step agreed offer (IsData code content) before after talk
   closed content answer short is talk settles = record {
     turns = record { code = code; answer = answer } ∷ [];
     takes = λ text whole. (
@@ -231,7 +231,7 @@ module _ (agreed : Agreed) (size code : ℕ) (fits : code < 2 ^ 32) (before afte
   }
 
   -- one whose data were thrown away
-  pub discarded : (answer : Answered) (left : ℕ) → left ≡ 0 → answer ≡ refusal_of agreed code errors.TooBig → (talk : Talk) → Settles code answer before after talk → Step agreed size (IsLongPart code left) before after talk
+  pub discarded : (answer : Answered) (left : ℕ) → left ≡ 0 → answer ≡ refusal_of agreed code errors.TooBig → (talk : Talk) → Settles code answer before after talk → Step agreed offer (IsLongPart code left) before after talk
   discarded answer left none is talk settles = record {
     turns = record { code = code; answer = answer } ∷ [];
     takes = λ text p.
@@ -311,22 +311,22 @@ not_greeted session new piece before after is same end = record {
   whole = inl (end, inl refl);
 }
 
-module _ (size : ℕ) (agreed : Agreed) (old greeting : Standing) (before middle after piece behind : List ℕ) (between : Talk) (greets : Greets old greeting before middle) (sound : IsGreeted between.stage)
-    (runs : Runs (session_at size agreed greeting) piece behind middle after (state_of size between)) (not : IsBehind old → ⊥) where
-  hears_to : HearsOn (session_at size agreed old) runs.taken runs.turns [] (state_of size between)
-  hears_to = hears_then (session_at size agreed old) (session_at size agreed greeting) (state_of size between) [] runs.taken [] runs.turns [] [] refl (greets_hears size agreed old greeting before middle greets) runs.hears
+module _ (offer : Offer) (agreed : Agreed) (old greeting : Standing) (before middle after piece behind : List ℕ) (between : Talk) (greets : Greets old greeting before middle) (sound : IsGreeted between.stage)
+    (runs : Runs (session_at offer agreed greeting) piece behind middle after (state_of offer between)) (not : IsBehind old → ⊥) where
+  hears_to : HearsOn (session_at offer agreed old) runs.taken runs.turns [] (state_of offer between)
+  hears_to = hears_then (session_at offer agreed old) (session_at offer agreed greeting) (state_of offer between) [] runs.taken [] runs.turns [] [] refl (greets_hears offer agreed old greeting before middle greets) runs.hears
 
   written_to : (new : Standing) → IsSaid new → after ≡ before ++ (greeting_due old new ++ answers_text runs.turns)
   written_to new said =
       runs.written ∙ ap (λ (t : List ℕ). t ++ answers_text runs.turns) (greeted old greeting new before middle greets said) ∙ append_assoc before (greeting_due old new) (answers_text runs.turns)
 
   -- memory ran out in the handshake
-  pub cut_short : (new : SessionState) → end_of new.standing ≡ Some NoMemory → Feeds (session_at size agreed old) piece before after [] new
+  pub cut_short : (new : SessionState) → end_of new.standing ≡ Some NoMemory → Feeds (session_at offer agreed old) piece before after [] new
   cut_short new end = record {
     turns = runs.turns;
     first = runs.taken;
     rest = behind;
-    between = state_of size between;
+    between = state_of offer between;
     parts = runs.parts;
     hears = hears_to;
     written = written_to (standing_of between.stage) (said_behind between.stage sound);
@@ -335,19 +335,19 @@ module _ (size : ℕ) (agreed : Agreed) (old greeting : Standing) (before middle
     whole = inl (end, inl refl);
   }
 
-  pub fed : (new : Standing) (requests : List Message) → Hands (standing_of between.stage) behind requests new → Feeds (session_at size agreed old) piece before after requests (session_at size between.agreed new)
+  pub fed : (new : Standing) (requests : List Message) → Hands (standing_of between.stage) behind requests new → Feeds (session_at offer agreed old) piece before after requests (session_at offer between.agreed new)
   fed new requests hands = record {
     turns = runs.turns;
     first = runs.taken ++ hands.first;
     rest = hands.rest;
-    between = session_at size between.agreed hands.between;
+    between = session_at offer between.agreed hands.between;
     parts = runs.parts ∙ ap (λ (t : List ℕ). runs.taken ++ t) hands.parts ∙ sym (append_assoc runs.taken hands.first hands.rest);
-    hears = subst (λ (turns : List Turn). HearsOn (session_at size agreed old) (runs.taken ++ hands.first) turns requests (session_at size between.agreed hands.between)) (append-nil runs.turns)
-        (hears_then (session_at size agreed old) (state_of size between) (session_at size between.agreed hands.between) runs.taken hands.first runs.turns [] [] requests refl hears_to (hands.hears size between.agreed));
+    hears = subst (λ (turns : List Turn). HearsOn (session_at offer agreed old) (runs.taken ++ hands.first) turns requests (session_at offer between.agreed hands.between)) (append-nil runs.turns)
+        (hears_then (session_at offer agreed old) (state_of offer between) (session_at offer between.agreed hands.between) runs.taken hands.first runs.turns [] [] requests refl hears_to (hands.hears offer between.agreed));
     written = written_to hands.between hands.said;
     said = λ b. hands.said;
     behind = λ b. absurd (not b);
-    whole = elim hands.whole [ inl end ↦ inl (end.0, elim end.1 [ inl none ↦ inl none | inr b ↦ inr (refl, b) ]) | inr both ↦ inr (both.0, ap (session_at size between.agreed) both.1) ];
+    whole = elim hands.whole [ inl end ↦ inl (end.0, elim end.1 [ inl none ↦ inl none | inr b ↦ inr (refl, b) ]) | inr both ↦ inr (both.0, ap (session_at offer between.agreed) both.1) ];
   }
 
 -- ---- behind the handshake
@@ -396,19 +396,19 @@ no_greeting ended new b = refl
 no_greeting broken new b = refl
 no_greeting exhausted new b = refl
 
-pub fed_behind : (size : ℕ) (agreed : Agreed) (old new : Standing) (before after piece : List ℕ) (requests : List Message) → IsBehind old → after ≡ before → Hands old piece requests new
-    → Feeds (session_at size agreed old) piece before after requests (session_at size agreed new)
-fed_behind size agreed old new before after piece requests b same hands = record {
+pub fed_behind : (offer : Offer) (agreed : Agreed) (old new : Standing) (before after piece : List ℕ) (requests : List Message) → IsBehind old → after ≡ before → Hands old piece requests new
+    → Feeds (session_at offer agreed old) piece before after requests (session_at offer agreed new)
+fed_behind offer agreed old new before after piece requests b same hands = record {
   turns = [];
   first = hands.first;
   rest = hands.rest;
-  between = session_at size agreed hands.between;
+  between = session_at offer agreed hands.between;
   parts = hands.parts;
-  hears = hands.hears size agreed;
+  hears = hands.hears offer agreed;
   written = same ∙ sym (append-nil before) ∙ ap (λ (t : List ℕ). before ++ (t ++ [])) (sym (no_greeting old hands.between b));
   said = λ was. hands.said;
   behind = λ was. (refl, refl, hands.behind was);
-  whole = elim hands.whole [ inl end ↦ inl (end.0, elim end.1 [ inl none ↦ inl none | inr b ↦ inr (refl, b) ]) | inr both ↦ inr (both.0, ap (session_at size agreed) both.1) ];
+  whole = elim hands.whole [ inl end ↦ inl (end.0, elim end.1 [ inl none ↦ inl none | inr b ↦ inr (refl, b) ]) | inr both ↦ inr (both.0, ap (session_at offer agreed) both.1) ];
 }
 
 pub handed_error : (result : Result (Vec Message) End) → IsErr result → handed result ≡ []

@@ -75,7 +75,7 @@ module _ {P : Type 0} (allows : P → Message → SessionFlags → P → Reply �
     pub parts : held ++ taken ≡ stream ++ unheard
     pub hears : HearsOn base stream [] more between
     pub agreed : between.agreed ≡ base.agreed
-    pub size : now ≡ between → now.size ≡ base.size
+    pub offer : now ≡ between → now.offer ≡ base.offer
     pub all : waiting ++ more ≡ asked exchanges ++ requests
     pub steps : AreSteps allows flags first exchanges pass
     pub written : Appends output made (talk_text flags exchanges)
@@ -96,7 +96,7 @@ module _ {P : Type 0} (allows : P → Message → SessionFlags → P → Reply �
     parts = append-nil held;
     hears = hears_none base;
     agreed = refl;
-    size = λ same. ap (λ (s : SessionState). s.size) same;
+    offer = λ same. ap (λ (s : SessionState). s.offer) same;
     all = append-nil waiting;
     steps = refl;
     written = appends_none output;
@@ -122,7 +122,7 @@ module _ {P : Type 0} (allows : P → Message → SessionFlags → P → Reply �
           parts = t.parts;
           hears = t.hears;
           agreed = t.agreed;
-          size = t.size;
+          offer = t.offer;
           all = t.all ∙ ap (λ (r : List Message). asked t.exchanges ++ r) (answers.all ∙ ap (λ (r : List Message). asked answers.exchanges ++ r) whole.0)
               ∙ sym (append_assoc (asked t.exchanges) (asked answers.exchanges) []) ∙ ap (λ (r : List Message). r ++ []) (sym (asked-append t.exchanges answers.exchanges));
           steps = steps_on allows flags first pass later t.exchanges answers.exchanges t.steps answers.steps;
@@ -192,7 +192,7 @@ module _ {P : Type 0} (allows : P → Message → SessionFlags → P → Reply �
       | inr end ↦ absurd (not_ended now.standing end is)
     ]))
 
-    module _ (new : SessionState) (left later : Option (List ℕ)) (outcome : Result (Vec Message) End) (unheard : t.unheard ≡ []) (size : t.between.size ≡ base.size) (h : Hearing t.between (ReadsOn t.between mid left) made later outcome new) where
+    module _ (new : SessionState) (left later : Option (List ℕ)) (outcome : Result (Vec Message) End) (unheard : t.unheard ≡ []) (offer : t.between.offer ≡ base.offer) (h : Hearing t.between (ReadsOn t.between mid left) made later outcome new) where
       quiet : (h.turns ≡ []) × (h.between.agreed ≡ t.between.agreed) × IsBehind h.between.standing
       quiet = h.behind t.behind
 
@@ -203,7 +203,7 @@ module _ {P : Type 0} (allows : P → Message → SessionFlags → P → Reply �
       timely_more none =
           let whole : t.taken ≡ t.stream = ap (λ (x : List ℕ). x ++ t.taken) (sym none) ∙ t.parts ∙ ap (λ (x : List ℕ). t.stream ++ x) unheard ∙ append-nil t.stream in
           let first : (t.taken ≡ []) ⊎ IsTimely base t.taken = elim t.timely [ inl nothing ↦ inl nothing | inr both ↦ inr both.1 ] in
-          elim (timely_on base t.between t.taken (h.stream ++ h.unheard) [] t.more size (subst (λ (x : List ℕ). HearsOn base x [] t.more t.between) (sym whole) t.hears) first h.read.1) [
+          elim (timely_on base t.between t.taken (h.stream ++ h.unheard) [] t.more offer (subst (λ (x : List ℕ). HearsOn base x [] t.more t.between) (sym whole) t.hears) first h.read.1) [
             | inl nothing ↦ inl nothing
             | inr timely ↦ inr (none, timely)
           ]
@@ -216,7 +216,7 @@ module _ {P : Type 0} (allows : P → Message → SessionFlags → P → Reply �
 
       hears_on : HearsOn base (t.stream ++ h.stream) [] (t.more ++ h.requests) h.between
       hears_on = subst (λ (turns : List Turn). HearsOn base (t.stream ++ h.stream) turns (t.more ++ h.requests) h.between) quiet.0
-          (hears_then base t.between h.between t.stream h.stream [] h.turns t.more h.requests size t.hears h.hears)
+          (hears_then base t.between h.between t.stream h.stream [] h.turns t.more h.requests offer t.hears h.hears)
 
       all_on : waiting ++ (t.more ++ h.requests) ≡ asked t.exchanges ++ h.requests
       all_on = sym (append_assoc waiting t.more h.requests) ∙ ap (λ (r : List Message). r ++ h.requests) (t.all ∙ append-nil (asked t.exchanges))
@@ -228,8 +228,8 @@ module _ {P : Type 0} (allows : P → Message → SessionFlags → P → Reply �
     heard_by : (new : SessionState) (left later : Option (List ℕ)) (outcome : Result (Vec Message) End) → now ≡ t.between → Hearing now (ReadsOn now mid left) made later outcome new → Hearing t.between (ReadsOn t.between mid left) made later outcome new
     heard_by new left later outcome same hearing = subst (λ (s : SessionState). Hearing s (ReadsOn s mid left) made later outcome new) same hearing
 
-    size_by : now ≡ t.between → t.between.size ≡ base.size
-    size_by same = sym (ap (λ (s : SessionState). s.size) same) ∙ t.size same
+    size_by : now ≡ t.between → t.between.offer ≡ base.offer
+    size_by same = sym (ap (λ (s : SessionState). s.offer) same) ∙ t.offer same
 
     -- more requests came
     pub heard_more : (given : Vec Message) (new : SessionState) (left later : Option (List ℕ)) → Hearing now (ReadsOn now mid left) made later (Ok given) new → (end_of now.standing ≡ Some NoMemory → ⊥) → Transmitting pass left later new given.items
@@ -237,7 +237,7 @@ module _ {P : Type 0} (allows : P → Message → SessionFlags → P → Reply �
         elim t.stands [
           | inr end ↦ absurd (fed end)
           | inl stands ↦
-              let size = size_by stands.1 in
+              let offer = size_by stands.1 in
               let h = heard_by new left later (Ok given) stands.1 hearing in
               let none : held ≡ [] = elim t.clear [ inl none ↦ none | inr end ↦ absurd (fed end) ] in
               record {
@@ -247,17 +247,17 @@ module _ {P : Type 0} (allows : P → Message → SessionFlags → P → Reply �
                 more = t.more ++ h.requests;
                 between = h.between;
                 exchanges = t.exchanges;
-                read = read_on new left later (Ok given) stands.0 size h;
-                timely = timely_more new left later (Ok given) stands.0 size h none;
+                read = read_on new left later (Ok given) stands.0 offer h;
+                timely = timely_more new left later (Ok given) stands.0 offer h none;
                 clear = inl none;
-                parts = parts_on new left later (Ok given) stands.0 size h;
-                hears = hears_on new left later (Ok given) stands.0 size h;
-                agreed = (quiet new left later (Ok given) stands.0 size h).1 ∙ t.agreed;
-                size = λ same. h.size ∙ size;
-                all = all_on new left later (Ok given) stands.0 size h ∙ ap (λ (r : List Message). asked t.exchanges ++ r) h.tells.0;
+                parts = parts_on new left later (Ok given) stands.0 offer h;
+                hears = hears_on new left later (Ok given) stands.0 offer h;
+                agreed = (quiet new left later (Ok given) stands.0 offer h).1 ∙ t.agreed;
+                offer = λ same. h.offer ∙ offer;
+                all = all_on new left later (Ok given) stands.0 offer h ∙ ap (λ (r : List Message). asked t.exchanges ++ r) h.tells.0;
                 steps = t.steps;
-                written = written_on new left later (Ok given) stands.0 size h;
-                behind = (quiet new left later (Ok given) stands.0 size h).2;
+                written = written_on new left later (Ok given) stands.0 offer h;
+                behind = (quiet new left later (Ok given) stands.0 offer h).2;
                 stands = elim h.tells.2 [ inl all ↦ inl all | inr end ↦ inr end.0 ];
               }
         ]
@@ -302,7 +302,7 @@ module _ {P : Type 0} (allows : P → Message → SessionFlags → P → Reply �
 
       heard_on : (end : End) → Hearing now (ReadsOn now mid left) made later (Err end) new → (end ≡ PeerClosed → IsAtEnd left) → held ≡ [] → t.unheard ≡ [] → now ≡ t.between → Transmits allows flags base held waiting first pass input left output later (Err end)
       heard_on end hearing closed none unheard same =
-          let size = size_by same in
+          let offer = size_by same in
           let h = heard_by new left later (Err end) same hearing in
           record {
             stream = t.stream ++ h.stream;
@@ -314,15 +314,15 @@ module _ {P : Type 0} (allows : P → Message → SessionFlags → P → Reply �
             unanswered = h.requests;
             text = talk_text flags t.exchanges;
             unsent = [];
-            read = read_on new left later (Err end) unheard size h;
-            timely = timely_more new left later (Err end) unheard size h none;
-            parts = parts_on new left later (Err end) unheard size h;
-            hears = hears_on new left later (Err end) unheard size h;
-            agreed = (quiet new left later (Err end) unheard size h).1 ∙ t.agreed;
-            requests = all_on new left later (Err end) unheard size h;
+            read = read_on new left later (Err end) unheard offer h;
+            timely = timely_more new left later (Err end) unheard offer h none;
+            parts = parts_on new left later (Err end) unheard offer h;
+            hears = hears_on new left later (Err end) unheard offer h;
+            agreed = (quiet new left later (Err end) unheard offer h).1 ∙ t.agreed;
+            requests = all_on new left later (Err end) unheard offer h;
             steps = t.steps;
             begins = sym (append-nil (talk_text flags t.exchanges));
-            written = written_on new left later (Err end) unheard size h;
+            written = written_on new left later (Err end) unheard offer h;
             ends = ends_with end unheard h closed;
           }
 

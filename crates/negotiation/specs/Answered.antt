@@ -1,7 +1,8 @@
 -- What an option is answered, by what the session has agreed on (docs/FORMATS.md, "Answers to options").
-use Rattle.std.specs.Prelude.{◌≡◌, ◌⊎◌, ℕ, ◌<◌, ◌^◌, Bool, true, false, not, ◌==◌, ◌||◌, if◌then◌else◌, List, [], ◌∷◌, ◌++◌, length, codes, Option, Some, None}
+use Rattle.std.specs.Prelude.{◌≡◌, ◌⊎◌, ℕ, ◌*◌, ◌<◌, ◌^◌, Bool, true, false, not, ◌==◌, ◌||◌, if◌then◌else◌, List, [], ◌∷◌, ◌++◌, length, codes, Option, Some, None}
 use Rattle.std.specs.List.{AllByRecursion, flat_map, list_any}
 use Rattle.std.specs.Str.{bytes_eq}
+use Rattle.image_model.specs.declared.geometry.Geometry.{Geometry}
 use Rattle.nbd_wire.specs.declared.message.SessionFlags.{SessionFlags}
 use Rattle.option_wire.specs.Export.{export_bytes}
 use Rattle.option_wire.specs.Field.{ContextAsked, InfoAsked}
@@ -18,6 +19,16 @@ use Rattle.option_wire.specs.Reply.{reply_bytes, reply_data}
 use Rattle.negotiation.specs.declared.answer.Agreed.{Agreed}
 use Rattle.negotiation.specs.declared.answer.Next.{Next}
 use Rattle.negotiation.specs.declared.answer.Next.TheVariants as behind
+
+-- the only export: its size in bytes, its name, and whether FLUSH and FUA are offered
+pub record Offer : Type 0 where
+  pub size : ℕ
+  pub name : List ℕ
+  pub flushes : Bool
+
+-- that of an image of this geometry
+abbrev pub offered : Geometry → List ℕ → Bool → Offer
+offered geometry name flushes = record { size = 4096 * geometry.blocks; name = name; flushes = flushes }
 
 -- What an option is answered: replies, and where an EXPORT_NAME begins transmission the export; what is agreed on from then on,
 -- and what comes behind it.
@@ -49,34 +60,35 @@ abbrev pub size_reply : OptionReply
 size_reply = messages.Info (informations.BlockSize 1 4096 1048576)
 
 -- the transmission flags of the export
-abbrev pub export_flags : SessionFlags → ℕ
-export_flags flags = if flags.structured then 0x01ed else 0x016d
+abbrev pub export_flags : Offer → SessionFlags → ℕ
+export_flags offer flags =
+    if offer.flushes then (if flags.structured then 0x01ed else 0x016d) else (if flags.structured then 0x01e1 else 0x0161)
 
 -- the size of the export in bytes, and its transmission flags
-abbrev pub export_reply : ℕ → Agreed → OptionReply
-export_reply size agreed = messages.Info (informations.Export size (export_flags agreed.flags))
+abbrev pub export_reply : Offer → Agreed → OptionReply
+export_reply offer agreed = messages.Info (informations.Export offer.size (export_flags offer agreed.flags))
 
 -- the same for an EXPORT_NAME, with zeroes behind it unless both sides set NO_ZEROES
-abbrev pub export_answer : ℕ → Agreed → ExportAnswer
-export_answer size agreed = record { size = size; flags = export_flags agreed.flags; zeroes = not agreed.no_zeroes }
+abbrev pub export_answer : Offer → Agreed → ExportAnswer
+export_answer offer agreed = record { size = offer.size; flags = export_flags offer agreed.flags; zeroes = not agreed.no_zeroes }
 
--- the name of the only export is empty
-abbrev pub is_export : List ℕ → Bool
-is_export name = length name == 0
+-- whether a name is that of the only export
+abbrev pub is_export : Offer → List ℕ → Bool
+is_export offer name = bytes_eq name offer.name
 
 -- The name of an EXPORT_NAME can't be refused: one of no export ends the session.
-abbrev pub named : Agreed → ℕ → List ℕ → Answered
-named agreed size name =
-    if is_export name then
-    record { replies = []; export = Some (export_answer size agreed); agreed = agreed; next = behind.Transmission }
+abbrev pub named : Agreed → Offer → List ℕ → Answered
+named agreed offer name =
+    if is_export offer name then
+    record { replies = []; export = Some (export_answer offer agreed); agreed = agreed; next = behind.Transmission }
     else record { replies = []; export = None; agreed = agreed; next = behind.Fault }
 
 -- An INFO, or a GO, which next comes behind. Who asks for the sizes of blocks is told them.
-abbrev pub informed : Agreed → ℕ → InfoAsked → Next → Answered
-informed agreed size asked next =
-    if is_export asked.name then
+abbrev pub informed : Agreed → Offer → InfoAsked → Next → Answered
+informed agreed offer asked next =
+    if is_export offer asked.name then
     record {
-      replies = export_reply size agreed
+      replies = export_reply offer agreed
           ∷ (if list_any (λ kind. kind == 3) asked.types then size_reply ∷ messages.Ack ∷ [] else messages.Ack ∷ []);
       export = None;
       agreed = agreed;
@@ -91,10 +103,10 @@ asks_for name queries = list_any (λ query. bytes_eq query name) queries
 abbrev pub is_listed : List (List ℕ) → Bool
 is_listed queries = (length queries == 0) || (asks_for namespace_name queries || asks_for allocation_name queries)
 
-abbrev pub listed : Agreed → ContextAsked → Answered
-listed agreed asked =
+abbrev pub listed : Agreed → Offer → ContextAsked → Answered
+listed agreed offer asked =
     if agreed.flags.structured then
-    (if is_export asked.name then
+    (if is_export offer asked.name then
     goes_on (if is_listed asked.queries then context_reply 0 ∷ messages.Ack ∷ [] else messages.Ack ∷ []) agreed
     else refused errors.Unknown agreed)
     else refused errors.Invalid agreed
@@ -108,37 +120,37 @@ with_structured agreed =
     record { flags = record { structured = true; context = agreed.flags.context }; no_zeroes = agreed.no_zeroes }
 
 -- A selection takes the place of the earlier one; where it is refused none is selected.
-abbrev pub selected : Agreed → ContextAsked → Answered
-selected agreed asked =
+abbrev pub selected : Agreed → Offer → ContextAsked → Answered
+selected agreed offer asked =
     if agreed.flags.structured then
-    (if is_export asked.name then
+    (if is_export offer asked.name then
     (if asks_for allocation_name asked.queries then
     goes_on (context_reply 1 ∷ messages.Ack ∷ []) (with_context true agreed)
     else goes_on (messages.Ack ∷ []) (with_context false agreed))
     else refused errors.Unknown (with_context false agreed))
     else refused errors.Invalid (with_context false agreed)
 
-abbrev pub answer_of : Agreed → ℕ → ClientOption → Answered
-answer_of agreed size (options.ExportName name) = named agreed size name
-answer_of agreed size options.Abort =
+abbrev pub answer_of : Agreed → Offer → ClientOption → Answered
+answer_of agreed offer (options.ExportName name) = named agreed offer name
+answer_of agreed offer options.Abort =
     record { replies = messages.Ack ∷ []; export = None; agreed = agreed; next = behind.End }
-answer_of agreed size options.ListExports = goes_on (messages.Server [] ∷ messages.Ack ∷ []) agreed
-answer_of agreed size options.StartTls = refused errors.Unsupported agreed
-answer_of agreed size (options.Info asked) = informed agreed size asked behind.Option
-answer_of agreed size (options.Go asked) = informed agreed size asked behind.Transmission
-answer_of agreed size options.StructuredReply = goes_on (messages.Ack ∷ []) (with_structured agreed)
-answer_of agreed size (options.ListMetaContext asked) = listed agreed asked
-answer_of agreed size (options.SetMetaContext asked) = selected agreed asked
-answer_of agreed size (options.Unknown code) = refused errors.Unsupported agreed
+answer_of agreed offer options.ListExports = goes_on (messages.Server offer.name ∷ messages.Ack ∷ []) agreed
+answer_of agreed offer options.StartTls = refused errors.Unsupported agreed
+answer_of agreed offer (options.Info asked) = informed agreed offer asked behind.Option
+answer_of agreed offer (options.Go asked) = informed agreed offer asked behind.Transmission
+answer_of agreed offer options.StructuredReply = goes_on (messages.Ack ∷ []) (with_structured agreed)
+answer_of agreed offer (options.ListMetaContext asked) = listed agreed offer asked
+answer_of agreed offer (options.SetMetaContext asked) = selected agreed offer asked
+answer_of agreed offer (options.Unknown code) = refused errors.Unsupported agreed
 
 -- an option whose data aren't read; a selection that is refused leaves none
 abbrev pub refusal_of : Agreed → ℕ → OptionError → Answered
 refusal_of agreed code error = refused error (if code == 10 then with_context false agreed else agreed)
 
 -- The answer to an option of this number with these data: malformed data are refused as invalid.
-abbrev pub IsAnswered : Agreed → ℕ → ℕ → List ℕ → Answered → Type 0
-IsAnswered agreed size code content answer =
-    ((option : ClientOption) × IsOption code content option × (answer ≡ answer_of agreed size option))
+abbrev pub IsAnswered : Agreed → Offer → ℕ → List ℕ → Answered → Type 0
+IsAnswered agreed offer code content answer =
+    ((option : ClientOption) × IsOption code content option × (answer ≡ answer_of agreed offer option))
     ⊎ (((option : ClientOption) → IsOption code content option → ⊥) × (answer ≡ refusal_of agreed code errors.Invalid))
 
 -- replies whose data have room for their length

@@ -8,7 +8,7 @@ use Rattle.option_wire.specs.Handshake.{client_bits, client_flags_bytes, greetin
 use Rattle.option_wire.specs.Head.{option_head, option_magic}
 use Rattle.option_wire.specs.declared.handshake.ClientFlags.{ClientFlags}
 use Rattle.option_wire.specs.declared.reply.OptionError.TheVariants as errors
-use Rattle.negotiation.specs.Answered.{Answered, IsAnswered, answer_bytes, refusal_of}
+use Rattle.negotiation.specs.Answered.{Offer, Answered, IsAnswered, answer_bytes, refusal_of}
 use Rattle.negotiation.specs.declared.answer.Agreed.{Agreed}
 use Rattle.negotiation.specs.declared.answer.Next.{Next}
 use Rattle.negotiation.specs.declared.answer.Next.TheVariants as behind
@@ -30,18 +30,18 @@ pub record Turn : Type 0 where
   pub answer : Answered
 
 -- data that are too long to be kept are thrown away, and refused
-abbrev pub IsTold : Agreed → ℕ → ℕ → List ℕ → Answered → Type 0
-IsTold agreed size code content answer =
-    ((length content ≤ kept_limit) × IsAnswered agreed size code content answer)
+abbrev pub IsTold : Agreed → Offer → ℕ → List ℕ → Answered → Type 0
+IsTold agreed offer code content answer =
+    ((length content ≤ kept_limit) × IsAnswered agreed offer code content answer)
     ⊎ ((kept_limit < length content) × (answer ≡ refusal_of agreed code errors.TooBig))
 
--- these bytes are an option, and this is its answer in a session that has agreed on so much, over an export of this size
-pub record IsTurn (agreed : Agreed) (size : ℕ) (text : List ℕ) (turn : Turn) : Type 0 where
+-- these bytes are an option, and this is its answer in a session that has agreed on so much, that offers this export
+pub record IsTurn (agreed : Agreed) (offer : Offer) (text : List ℕ) (turn : Turn) : Type 0 where
   pub content : List ℕ
   pub code_fits : turn.code < 2 ^ 32
   pub bound : length content ≤ most_bytes turn.code
   pub whole : text ≡ option_head turn.code (length content) ++ content
-  pub told : IsTold agreed size turn.code content turn.answer
+  pub told : IsTold agreed offer turn.code content turn.answer
 
 -- what a session has read last, that is not whole
 pub data Standing : Type 0 where
@@ -133,12 +133,12 @@ Follows behind.End agreed rest turns outcome options = (turns ≡ []) × IsOver 
 Follows behind.Fault agreed rest turns outcome options = (turns ≡ []) × IsOver agreed outcome broken
 
 -- Behind the client's flags stand these options, one after another, and behind them perhaps requests.
-abbrev pub Negotiates : ℕ → Agreed → List ℕ → List Turn → Outcome → Type 0
-Negotiates size agreed stream [] outcome =
+abbrev pub Negotiates : Offer → Agreed → List ℕ → List Turn → Outcome → Type 0
+Negotiates offer agreed stream [] outcome =
     (outcome.requests ≡ []) × (outcome.agreed ≡ agreed) × Leaves outcome.standing stream
-Negotiates size agreed stream (turn ∷ turns) outcome =
-    (text rest : List ℕ) × IsTurn agreed size text turn × (stream ≡ text ++ rest)
-    × Follows turn.answer.next turn.answer.agreed rest turns outcome (Negotiates size turn.answer.agreed rest turns outcome)
+Negotiates offer agreed stream (turn ∷ turns) outcome =
+    (text rest : List ℕ) × IsTurn agreed offer text turn × (stream ≡ text ++ rest)
+    × Follows turn.answer.next turn.answer.agreed rest turns outcome (Negotiates offer turn.answer.agreed rest turns outcome)
 
 -- nothing is agreed on at first
 abbrev pub plain : Agreed
@@ -174,16 +174,16 @@ pub record IsFlagless (stream : List ℕ) (turns : List Turn) (outcome : Outcome
   pub leaves : LeavesFlags outcome.standing stream
 
 -- the client's flags, and what stands behind them
-pub record IsNegotiated (size : ℕ) (stream : List ℕ) (turns : List Turn) (outcome : Outcome) : Type 0 where
+pub record IsNegotiated (offer : Offer) (stream : List ℕ) (turns : List Turn) (outcome : Outcome) : Type 0 where
   pub client : ClientFlags
   pub rest : List ℕ
   pub accepted : IsAccepted client
   pub whole : stream ≡ client_flags_bytes client ++ rest
-  pub negotiates : Negotiates size (agreed_with client plain) rest turns outcome
+  pub negotiates : Negotiates offer (agreed_with client plain) rest turns outcome
 
--- A session over an export of so many bytes has read this stream: these options were answered, and this came of it.
-abbrev pub Hears : ℕ → List ℕ → List Turn → Outcome → Type 0
-Hears size stream turns outcome = IsFlagless stream turns outcome ⊎ IsNegotiated size stream turns outcome
+-- A session that offers this export has read this stream: these options were answered, and this came of it.
+abbrev pub Hears : Offer → List ℕ → List Turn → Outcome → Type 0
+Hears offer stream turns outcome = IsFlagless stream turns outcome ⊎ IsNegotiated offer stream turns outcome
 
 -- the answers to options, one option after another
 abbrev pub answers_text : List Turn → List ℕ
@@ -197,7 +197,7 @@ handshake_text turns = greeting_bytes ++ answers_text turns
 -- an empty stream it is open whether anything was said yet.
 abbrev pub OneHearing : Type 0
 OneHearing =
-    (size : ℕ) (stream : List ℕ) (turns others : List Turn) (outcome other : Outcome) → Hears size stream turns outcome
-    → Hears size stream others other
+    (offer : Offer) (stream : List ℕ) (turns others : List Turn) (outcome other : Outcome) → Hears offer stream turns outcome
+    → Hears offer stream others other
     → (turns ≡ others) × (outcome.requests ≡ other.requests) × (outcome.agreed ≡ other.agreed)
     × (stream ≢ [] → outcome.standing ≡ other.standing)

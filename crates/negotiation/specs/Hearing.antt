@@ -54,7 +54,7 @@ pub record Hearing (old : SessionState) (IsRead : List ℕ → Type 0) (output m
   pub hears : HearsOn old stream turns requests between
   pub begins : greeting_due old.standing between.standing ++ answers_text turns ≡ text ++ unsent
   pub written : Appends output made text
-  pub size : new.size ≡ old.size
+  pub offer : new.offer ≡ old.offer
   pub said : IsSaid old.standing → IsSaid between.standing
   pub behind : IsBehind old.standing → (turns ≡ []) × (between.agreed ≡ old.agreed) × IsBehind between.standing
   pub tells : Tells requests unsent unheard between new outcome

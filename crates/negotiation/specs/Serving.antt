@@ -1,4 +1,5 @@
 -- What a session over streams reads, whom it asks for answers, and what it writes.
+use Rattle.negotiation.specs.Answered.{Offer}
 use Rattle.std.specs.Prelude.{ℕ, ◌≡◌, ◌⊎◌, List, [], ◌++◌, Option, Some, Result, Ok, Err}
 use Rattle.std.specs.Io.KnownBytes.{Appends, Consumes, IsAtEnd}
 use Rattle.nbd_wire.specs.Request.{Message}
@@ -16,17 +17,17 @@ abbrev pub dialog : List Turn → SessionFlags → List Exchange → List ℕ
 dialog turns flags exchanges = handshake_text turns ++ talk_text flags exchanges
 
 -- This text is the dialog of a stream: the options in it have their answers, and the first of its requests these replies.
-pub record IsDialog (size : ℕ) (stream : List ℕ) (outcome : Outcome) (exchanges : List Exchange) (unanswered : List Message) (text : List ℕ) : Type 0 where
+pub record IsDialog (offer : Offer) (stream : List ℕ) (outcome : Outcome) (exchanges : List Exchange) (unanswered : List Message) (text : List ℕ) : Type 0 where
   pub turns : List Turn
-  pub hears : Hears size stream turns outcome
+  pub hears : Hears offer stream turns outcome
   pub requests : outcome.requests ≡ asked exchanges ++ unanswered
   pub whole : text ≡ dialog turns outcome.agreed.flags exchanges
 
 -- the dialog is a function of the stream and of the replies
 abbrev pub OneDialog : Type 0
 OneDialog =
-    (size : ℕ) (stream : List ℕ) (outcome other : Outcome) (exchanges others : List Exchange) (unanswered left : List Message)
-    (text same : List ℕ) → IsDialog size stream outcome exchanges unanswered text → IsDialog size stream other others left same
+    (offer : Offer) (stream : List ℕ) (outcome other : Outcome) (exchanges others : List Exchange) (unanswered left : List Message)
+    (text same : List ℕ) → IsDialog offer stream outcome exchanges unanswered text → IsDialog offer stream other others left same
     → answered exchanges ≡ answered others → (exchanges ≡ others) × (unanswered ≡ left) × (text ≡ same)
 
 -- Everything that was read was heard, each request has its reply, and all of the text is written.
@@ -47,12 +48,12 @@ Ends standing unheard unsent unanswered left (Err ProtocolEnd) =
 Ends standing unheard unsent unanswered left (Err IoFault) = Unit {0}
 
 -- a session in which nothing was said yet
-abbrev pub begun : ℕ → SessionState
-begun size = record { size = size; agreed = plain; standing = silent }
+abbrev pub begun : Offer → SessionState
+begun offer = record { offer = offer; agreed = plain; standing = silent }
 
 -- Of what was read a first part was heard. The first of its requests had their steps, each allowed from where the one before it
 -- left the pass, and what is written is a beginning of the dialog with these replies.
-pub record IsServed {P : Type 0} (allows : P → Message → SessionFlags → P → Reply → Type 0) (size : ℕ) (old new : P) (input left output made : Option (List ℕ)) (end : Result (Unit {0}) End) : Type 0 where
+pub record IsServed {P : Type 0} (allows : P → Message → SessionFlags → P → Reply → Type 0) (offer : Offer) (old new : P) (input left output made : Option (List ℕ)) (end : Result (Unit {0}) End) : Type 0 where
   pub stream : List ℕ
   pub unheard : List ℕ
   pub outcome : Outcome
@@ -60,8 +61,8 @@ pub record IsServed {P : Type 0} (allows : P → Message → SessionFlags → P 
   pub unanswered : List Message
   pub text : List ℕ
   pub unsent : List ℕ
-  pub read : ReadsOn (begun size) input left (stream ++ unheard)
-  pub owed : IsDialog size stream outcome exchanges unanswered (text ++ unsent)
+  pub read : ReadsOn (begun offer) input left (stream ++ unheard)
+  pub owed : IsDialog offer stream outcome exchanges unanswered (text ++ unsent)
   pub steps : AreSteps allows outcome.agreed.flags old exchanges new
   pub written : Appends output made text
   pub ends : Ends outcome.standing unheard unsent unanswered left end

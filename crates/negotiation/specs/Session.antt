@@ -6,6 +6,7 @@ use Rattle.std.specs.Option.{option_map}
 use Rattle.nbd_wire.specs.Request.{Message}
 use Rattle.nbd_wire.specs.Stream.{held, end_of as end_of_requests, room_of as room_of_reader}
 use Rattle.option_wire.specs.Handshake.{greeting_bytes}
+use Rattle.negotiation.specs.Answered.{Offer}
 use Rattle.negotiation.specs.declared.answer.Agreed.{Agreed}
 use Rattle.negotiation.specs.declared.answer.Next.TheVariants as behind
 use Rattle.negotiation.specs.declared.end.End.{End}
@@ -15,9 +16,9 @@ use Rattle.negotiation.specs.declared.stage.Stage.TheVariants as stages
 use Rattle.negotiation.specs.Ends.{end_for}
 use Rattle.negotiation.specs.Dialog.{Hears, Outcome, Standing, Turn, answers_text, broken, ended, exhausted, in_discard, in_flags, in_head, in_option, in_requests, kept_limit, silent}
 
--- the size of the export, what is agreed on, and what was read last
+-- the export that is offered, what is agreed on, and what was read last
 pub record SessionState : Type 0 where
-  pub size : ℕ
+  pub offer : Offer
   pub agreed : Agreed
   pub standing : Standing
 
@@ -56,8 +57,8 @@ IsStage stage = IsGreeted stage
 -- A session that had read any stream up to here has read the stream and the piece, with these further options and requests.
 abbrev pub HearsOn : SessionState → List ℕ → List Turn → List Message → SessionState → Type 0
 HearsOn old piece turns requests new =
-    (stream : List ℕ) (before : List Turn) (asked : List Message) → Hears old.size stream before (outcome_of asked old)
-    → Hears old.size (stream ++ piece) (before ++ turns) (outcome_of (asked ++ requests) new)
+    (stream : List ℕ) (before : List Turn) (asked : List Message) → Hears old.offer stream before (outcome_of asked old)
+    → Hears old.offer (stream ++ piece) (before ++ turns) (outcome_of (asked ++ requests) new)
 
 -- the greeting is due once anything is said
 abbrev pub greeting_due : Standing → Standing → List ℕ
@@ -131,7 +132,7 @@ pub record Fills (old : SessionState) (input left : Option (List ℕ)) (count : 
   pub len : length piece ≡ count
   pub read : Consumes input left piece
   pub feeds : Feeds old piece [] [] [] new
-  pub size : new.size ≡ old.size
+  pub offer : new.offer ≡ old.offer
   pub said : IsSaid new.standing
   pub going : IsOpen new.standing
   pub end : count ≡ 0 → IsAtEnd left

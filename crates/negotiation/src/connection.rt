@@ -1,4 +1,5 @@
-ghost use Rattle.std.specs.Prelude.{◌≡◌, ◌*◌, [], IfOk, vec_len};
+ghost use Rattle.std.specs.Prelude.{◌≡◌, [], IfOk, vec_len};
+ghost use Rattle.negotiation.specs.Answered.{offered};
 ghost use Rattle.negotiation.specs.Dialog.{HasNoDisc};
 ghost use Rattle.negotiation.specs.Session.{IsBehind};
 ghost use Rattle.negotiation.specs.Hearing.{piece_bytes};
@@ -6,6 +7,7 @@ ghost use Rattle.negotiation.specs.Serving.{IsServed, TransmitsOn};
 
 use crate::end::End;
 use crate::hear::{hear, negotiate};
+use crate::offer::OfferedExport;
 use crate::serve::{Serve, answer_all};
 use crate::session::Session;
 use nbd_wire::Request;
@@ -27,9 +29,10 @@ pub fn serve_session<P, S: Serve<P>, R: Read, W: Write>(
     export: &S,
     pass: &mut P,
 ) -> Result<(), End>
-    ensures { IsServed (S.allows export.now) (4096 * (S.extent export.now).blocks) pass.old pass.new (R.remaining input.old) (R.remaining input.new) (W.contents output.old) (W.contents output.new) result }
+    ensures { IsServed (S.allows export.now) (offered (S.extent export.now) (S.name export.now) (S.flushes export.now)) pass.old pass.new (R.remaining input.old) (R.remaining input.new) (W.contents output.old) (W.contents output.new) result }
 {
-    let mut session = Session::new(alloc, export.geometry());
+    let offer = OfferedExport::new(alloc, export.geometry(), export.name(), export.flushes())?;
+    let mut session = Session::new(alloc, offer);
     let mut piece = empty_piece(alloc)?;
     let mut due = Vec::new(alloc);
     let requests = negotiate(input, output, &mut session, &mut piece, &mut due)?;

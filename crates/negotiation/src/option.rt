@@ -2,6 +2,7 @@ ghost use Rattle.std.specs.Prelude.{◌≡◌, IfOk, [], ◌∷◌};
 ghost use Rattle.negotiation.specs.Answered.{AreShort, IsAnswered, answer_of, asks_for, context_reply, export_flags, export_reply, goes_on, informed, listed, named, refusal_of, selected, size_reply, with_context, with_structured};
 
 use crate::answer::{Agreed, Next, OptionAnswer, one, two};
+use crate::offer::OfferedExport;
 use nbd_wire::{SessionFlags, transmission_flags};
 use option_wire::{
     ClientOption, ContextRequest, ExportAnswer, INFO_BLOCK_SIZE, InfoRequest, Information,
@@ -25,57 +26,56 @@ const SELECTED: u32 = 1;
 
 const LISTED: u32 = 0;
 
-/// The answer to an option of this number with these data, of a session that has agreed on so much, over an
-/// export of `size` bytes whose name is empty: malformed data are answered ERR_INVALID. Refusal 0 (no memory).
+/// The answer to an option of this number with these data, of a session that has agreed on so much and offers this
+/// export: malformed data are answered ERR_INVALID. Refusal 0 (no memory).
 pub fn answer_data(
     alloc: Global,
     code: u32,
     bytes: &[u8],
     agreed: Agreed,
-    size: u64,
+    offer: &OfferedExport,
 ) -> Result<OptionAnswer, AllocError>
-    ensures answered { IfOk result (IsAnswered agreed size code bytes.now) }
+    ensures answered { IfOk result (IsAnswered agreed offer.now code bytes.now) }
     ensures short { IfOk result (λ answer. AreShort answer.replies) }
 {
     match decode_option(alloc, code, bytes) {
-        Ok(option) => answer_option(alloc, &option, agreed, size),
+        Ok(option) => answer_option(alloc, &option, agreed, offer),
         Err(OptionFault::Malformed) => refuse_option(alloc, code, agreed, OptionError::Invalid),
         Err(OptionFault::NoMemory) => Err(AllocError),
     }
 }
 
-/// The answer to an option of a session that has agreed on so much, over an export of `size` bytes whose name is
-/// empty. Refusal 0 (no memory).
+/// The answer to an option of a session that has agreed on so much and offers this export. Refusal 0 (no memory).
 pub fn answer_option(
     alloc: Global,
     option: &ClientOption,
     agreed: Agreed,
-    size: u64,
+    offer: &OfferedExport,
 ) -> Result<OptionAnswer, AllocError>
-    ensures value { IfOk result (λ answer. answer ≡ answer_of agreed size option.now) }
+    ensures value { IfOk result (λ answer. answer ≡ answer_of agreed offer.now option.now) }
     ensures short { IfOk result (λ answer. AreShort answer.replies) }
 {
     match option {
-        ClientOption::ExportName(name) => Ok(name_export(alloc, name, agreed, size)),
+        ClientOption::ExportName(name) => Ok(name_export(alloc, name, agreed, offer)),
         ClientOption::Abort => {
             Ok(OptionAnswer::new(one(alloc, OptionReply::Ack)?, agreed, Next::End))
         }
         ClientOption::ListExports => {
-            let name = Text::from_slice(alloc, b"")?;
+            let name = Text::from_slice(alloc, offer.name())?;
             let replies = two(alloc, OptionReply::Server(name), OptionReply::Ack)?;
             Ok(OptionAnswer::new(replies, agreed, Next::Option))
         }
         ClientOption::StartTls | ClientOption::Unknown(_) => {
             refuse(alloc, agreed, OptionError::Unsupported)
         }
-        ClientOption::Info(asked) => inform(alloc, asked, agreed, size, Next::Option),
-        ClientOption::Go(asked) => inform(alloc, asked, agreed, size, Next::Transmission),
+        ClientOption::Info(asked) => inform(alloc, asked, agreed, offer, Next::Option),
+        ClientOption::Go(asked) => inform(alloc, asked, agreed, offer, Next::Transmission),
         ClientOption::StructuredReply => {
             let now = with_structured(agreed);
             Ok(OptionAnswer::new(one(alloc, OptionReply::Ack)?, now, Next::Option))
         }
-        ClientOption::ListMetaContext(asked) => list(alloc, asked, agreed),
-        ClientOption::SetMetaContext(asked) => select(alloc, asked, agreed),
+        ClientOption::ListMetaContext(asked) => list(alloc, asked, agreed, offer),
+        ClientOption::SetMetaContext(asked) => select(alloc, asked, agreed, offer),
     }
 }
 
@@ -132,31 +132,31 @@ fn size_reply() -> OptionReply
 }
 
 // The transmission flags of the export.
-fn export_flags(agreed: Agreed) -> u16
-    ensures { result ≡ export_flags agreed.flags }
+fn export_flags(offer: &OfferedExport, agreed: Agreed) -> u16
+    ensures { result ≡ export_flags offer.now agreed.flags }
 {
-    transmission_flags(agreed.flags.structured)
+    transmission_flags(agreed.flags.structured, offer.flushes())
 }
 
-fn export_reply(size: u64, agreed: Agreed) -> OptionReply
-    ensures { result ≡ export_reply size agreed }
+fn export_reply(offer: &OfferedExport, agreed: Agreed) -> OptionReply
+    ensures { result ≡ export_reply offer.now agreed }
 {
     OptionReply::Info(Information::Export {
-        size,
-        flags: export_flags(agreed),
+        size: offer.size(),
+        flags: export_flags(offer, agreed),
     })
 }
 
 // The answer to an EXPORT_NAME, which can't be refused: another name ends the session.
-fn name_export(alloc: Global, name: &Text, agreed: Agreed, size: u64) -> OptionAnswer
-    ensures { result ≡ named agreed size name.now }
+fn name_export(alloc: Global, name: &Text, agreed: Agreed, offer: &OfferedExport) -> OptionAnswer
+    ensures { result ≡ named agreed offer.now name.now }
 {
-    if !name.as_bytes().is_empty() {
+    if !offer.is_named(name.as_bytes()) {
         return OptionAnswer::new(Vec::new(alloc), agreed, Next::Fault);
     }
     let export = ExportAnswer {
-        size,
-        flags: export_flags(agreed),
+        size: offer.size(),
+        flags: export_flags(offer, agreed),
         zeroes: !agreed.no_zeroes,
     };
     OptionAnswer::begin(alloc, export, agreed)
@@ -166,15 +166,15 @@ fn inform(
     alloc: Global,
     asked: &InfoRequest,
     agreed: Agreed,
-    size: u64,
+    offer: &OfferedExport,
     next: Next,
 ) -> Result<OptionAnswer, AllocError>
-    ensures { IfOk result (λ answer. answer ≡ informed agreed size asked.now next) }
+    ensures { IfOk result (λ answer. answer ≡ informed agreed offer.now asked.now next) }
 {
-    if !asked.name().is_empty() {
+    if !offer.is_named(asked.name()) {
         return refuse(alloc, agreed, OptionError::Unknown);
     }
-    let export = export_reply(size, agreed);
+    let export = export_reply(offer, agreed);
     if !asked.types().contains(&INFO_BLOCK_SIZE) {
         let replies = two(alloc, export, OptionReply::Ack)?;
         return Ok(OptionAnswer::new(replies, agreed, next));
@@ -198,13 +198,18 @@ fn context_reply(alloc: Global, id: u32) -> Result<OptionReply, AllocError>
     Ok(OptionReply::MetaContext { id, name })
 }
 
-fn list(alloc: Global, asked: &ContextRequest, agreed: Agreed) -> Result<OptionAnswer, AllocError>
-    ensures { IfOk result (λ answer. answer ≡ listed agreed asked.now) }
+fn list(
+    alloc: Global,
+    asked: &ContextRequest,
+    agreed: Agreed,
+    offer: &OfferedExport,
+) -> Result<OptionAnswer, AllocError>
+    ensures { IfOk result (λ answer. answer ≡ listed agreed offer.now asked.now) }
 {
     if !agreed.flags.structured {
         return refuse(alloc, agreed, OptionError::Invalid);
     }
-    if !asked.name().is_empty() {
+    if !offer.is_named(asked.name()) {
         return refuse(alloc, agreed, OptionError::Unknown);
     }
     let queries = asked.queries();
@@ -219,17 +224,22 @@ fn list(alloc: Global, asked: &ContextRequest, agreed: Agreed) -> Result<OptionA
     Ok(OptionAnswer::new(replies, agreed, Next::Option))
 }
 
-fn select(alloc: Global, asked: &ContextRequest, agreed: Agreed) -> Result<OptionAnswer, AllocError>
-    ensures { IfOk result (λ answer. answer ≡ selected agreed asked.now) }
+fn select(
+    alloc: Global,
+    asked: &ContextRequest,
+    agreed: Agreed,
+    offer: &OfferedExport,
+) -> Result<OptionAnswer, AllocError>
+    ensures { IfOk result (λ answer. answer ≡ selected agreed offer.now asked.now) }
 {
     let context = agreed.flags.structured
-        && asked.name().is_empty()
+        && offer.is_named(asked.name())
         && asks_for(asked.queries(), ALLOCATION);
     let now = with_context(agreed, context);
     if !agreed.flags.structured {
         return refuse(alloc, now, OptionError::Invalid);
     }
-    if !asked.name().is_empty() {
+    if !offer.is_named(asked.name()) {
         return refuse(alloc, now, OptionError::Unknown);
     }
     let replies = if context {

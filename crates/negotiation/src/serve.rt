@@ -1,4 +1,4 @@
-ghost use Rattle.std.specs.Prelude.{◌≡◌, ◌≤◌, ◌++◌, [], false, is_ok, vec_len, IfErr, IsTrue, OnOk};
+ghost use Rattle.std.specs.Prelude.{◌≡◌, ℕ, Bool, ◌≤◌, ◌++◌, List, [], false, is_ok, vec_len, IfErr, IsTrue, OnOk};
 ghost use Rattle.nbd_wire.specs.Reply.{IsAnswerTo};
 ghost use Rattle.nbd_wire.specs.Request.{Message};
 ghost use Rattle.negotiation.specs.Dialog.{HasNoDisc, is_disc};
@@ -11,11 +11,12 @@ ghost use Rattle.negotiation.specs.Talk.{Answers, IsStep, is_thrown_away, is_who
 ghost use Rattle.negotiation.specs.inner.Talk.{ServesOn};
 
 use crate::end::End;
+use crate::offer::OfferedName;
 use bitflags::Flags;
 use image_model::Geometry;
 use nbd_wire::{
     Answer, CommandFlags, Errno, MAX_PAYLOAD, Reply, Request, RequestHead, SessionFlags,
-    StreamFault, WRITE, encode_before_data, write_whole,
+    StreamFault, WRITE, encode_before_data, write_unflushed, write_whole,
 };
 use std::io::Write;
 
@@ -29,9 +30,21 @@ pub trait Serve<P> {
 
     ghost extent: { Self → Geometry };
 
+    ghost name: { Self → List ℕ };
+
+    ghost flushes: { Self → Bool };
+
     /// The sizes of its image.
     fn geometry(&self) -> Geometry
         ensures { result ≡ extent self.now };
+
+    /// The name that clients ask for it by.
+    fn name(&self) -> OfferedName<'_>
+        ensures { result.bytes.now ≡ name self.now };
+
+    /// Whether it offers FLUSH and FUA: not where they make nothing durable. A FLUSH that comes all the same is answered.
+    fn flushes(&self) -> bool
+        ensures { result ≡ flushes self.now };
 
     /// Whether the answer to a request with this head may keep its caller waiting. It decides when replies are written and
     /// nothing else.
@@ -128,7 +141,7 @@ fn answer<P, S: Serve<P>, W: Write>(
     Ok(())
 }
 
-// Writes what is due and these bytes behind it; not where there are none.
+// Writes what is due and these bytes behind it, so that they can go out together; not where there are none.
 fn write_behind<W: Write>(
     output: &mut W,
     due: &mut Vec<u8>,
@@ -139,8 +152,18 @@ fn write_behind<W: Write>(
     if bytes.is_empty() {
         return Ok(());
     }
-    write_due(output, due)?;
+    write_first(output, due)?;
     write_whole(output, bytes)
+}
+
+// Writes what is due, and doesn't hand it on: more follows at once.
+fn write_first<W: Write>(output: &mut W, due: &mut Vec<u8>) -> Result<(), StreamFault>
+    ensures none { due.new.items ≡ [] }
+    ensures writes { Writes (W.contents output.old) (W.contents output.new) due.old.items due.new.items (is_ok result) }
+{
+    let written = write_unflushed(output, due);
+    due.clear();
+    written
 }
 
 // The reply to a request. A WRITE whose data were thrown away is too long, and isn't handed over.

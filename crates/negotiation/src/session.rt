@@ -7,8 +7,8 @@ ghost use Rattle.negotiation.specs.inner.Session.{wanted_of, Advances, Greets, H
 
 use crate::answer::Agreed;
 use crate::end::End;
+use crate::offer::OfferedExport;
 use crate::stage::{Stage, Talk, discard, take_data, take_flags, take_head, wanted};
-use image_model::{BLOCK_BYTES, Geometry};
 use nbd_wire::{DISCONNECT, Request, SessionFlags, StreamReader};
 use option_wire::greeting;
 use std::alloc::{AllocError, Global};
@@ -20,7 +20,7 @@ use std::mem;
 /// client sent may come in any pieces.
 pub struct Session {
     alloc: Global,
-    size: u64,
+    offer: OfferedExport,
     agreed: Agreed,
     stage: Stage,
 }
@@ -30,7 +30,7 @@ impl Model for Session {
 
     ghost Value = { SessionState };
 
-    ghost view = { λ session. record { size = session.size; agreed = session.agreed; standing = standing_of session.stage } };
+    ghost view = { λ session. record { offer = session.offer; agreed = session.agreed; standing = standing_of session.stage } };
 
     ghost invariant = { λ session. IsStage session.stage };
 }
@@ -40,7 +40,7 @@ impl Drop for Session {
     fn drop(self) {
         let Session {
             alloc: _,
-            size: _,
+            offer: _,
             agreed: _,
             stage: _,
         } = self;
@@ -48,13 +48,13 @@ impl Drop for Session {
 }
 
 impl Session {
-    /// A session in which nothing was said yet, over an export of this geometry.
-    pub fn new(alloc: Global, geometry: Geometry) -> Session
-        ensures { result ≡ record { size = 4096 * geometry.blocks; agreed = plain; standing = silent } }
+    /// A session in which nothing was said yet, and which offers this export.
+    pub fn new(alloc: Global, offer: OfferedExport) -> Session
+        ensures { result ≡ record { offer = offer; agreed = plain; standing = silent } }
     {
         Session {
             alloc,
-            size: geometry.blocks * BLOCK_BYTES,
+            offer,
             agreed: Agreed {
                 flags: SessionFlags {
                     structured: false,
@@ -75,7 +75,7 @@ impl Session {
     pub fn feed(&mut self, piece: &[u8], out: &mut Vec<u8>) -> Result<Vec<Request>, End>
         // However the input was cut, these are its next requests, and this was due for its next options.
         ensures session { Feeds self.old piece.now out.old.items out.new.items (handed result) self.new }
-        ensures size { self.new.size ≡ self.old.size }
+        ensures offer { self.new.offer ≡ self.old.offer }
 
         // An end comes where there is no request before it, and then always.
         ensures fault { IfErr result (λ end. end_of self.new.standing ≡ Some end) }
@@ -94,7 +94,7 @@ impl Session {
             agreed: self.agreed,
             stage,
         };
-        let (talk, rest) = negotiate(self.alloc, self.size, talk, piece, out)?;
+        let (talk, rest) = negotiate(self.alloc, &self.offer, talk, piece, out)?;
         self.agreed = talk.agreed;
         let (stage, requests) = hand_out(self.alloc, talk.stage, rest);
         self.stage = stage;
@@ -173,18 +173,18 @@ fn greet(alloc: Global, stage: Stage, out: &mut Vec<u8>) -> Result<Stage, AllocE
 // handshake.
 fn negotiate<'a>(
     alloc: Global,
-    size: u64,
+    offer: &OfferedExport,
     talk: Talk,
     piece: &'a [u8],
     out: &mut Vec<u8>,
 ) -> Result<(Talk, &'a [u8]), AllocError>
     requires { IsGreeted talk.stage }
     ensures sound { IfOk result (λ read. IsGreeted read.0.stage) }
-    ensures runs { IfOk result (λ read. Runs (state_of size talk) piece.now read.1.now out.old.items out.new.items (state_of size read.0)) }
+    ensures runs { IfOk result (λ read. Runs (state_of offer.now talk) piece.now read.1.now out.old.items out.new.items (state_of offer.now read.0)) }
     ensures all { IfOk result (λ read. (read.1.now ≡ []) ⊎ (wanted_of read.0.stage ≡ 0)) }
     ensures still { wanted_of talk.stage ≡ 0 → IsOkAnd result (λ read. (read.0 ≡ talk) × (read.1.now ≡ piece.now)) × (out.new.items ≡ out.old.items) }
     ensures err { OnErr result ((behind : List ℕ) × (between : Talk) × IsGreeted between.stage
-        × Runs (state_of size talk) piece.now behind out.old.items out.new.items (state_of size between)) }
+        × Runs (state_of offer.now talk) piece.now behind out.old.items out.new.items (state_of offer.now between)) }
 {
     let mut talk = talk;
     let mut rest = piece;
@@ -194,7 +194,7 @@ fn negotiate<'a>(
             break;
         }
         let (front, behind) = rest.split_at(rest.len().min(wanted));
-        talk = advance(alloc, size, talk, front, out)?;
+        talk = advance(alloc, offer, talk, front, out)?;
         rest = behind;
     }
     Ok((talk, rest))
@@ -203,7 +203,7 @@ fn negotiate<'a>(
 // Takes the next bytes of the handshake, and answers the option that is whole now.
 fn advance(
     alloc: Global,
-    size: u64,
+    offer: &OfferedExport,
     talk: Talk,
     front: &[u8],
     out: &mut Vec<u8>,
@@ -211,14 +211,14 @@ fn advance(
     requires sound { IsGreeted talk.stage }
     requires wanted { length front.now ≤ wanted_of talk.stage }
     ensures sound { IfOk result (λ new. IsGreeted new.stage) }
-    ensures advances { IfOk result (λ new. Advances (state_of size talk) front.now out.old.items out.new.items (state_of size new)) }
+    ensures advances { IfOk result (λ new. Advances (state_of offer.now talk) front.now out.old.items out.new.items (state_of offer.now new)) }
     ensures err { OnErr result (out.new.items ≡ out.old.items) }
 {
     let Talk { agreed, stage } = talk;
     match stage {
         Stage::Flags(bytes) => take_flags(alloc, agreed, bytes, front),
-        Stage::Head(bytes) => take_head(alloc, size, agreed, bytes, front, out),
-        Stage::Data { head, bytes } => take_data(alloc, size, agreed, head, bytes, front, out),
+        Stage::Head(bytes) => take_head(alloc, offer, agreed, bytes, front, out),
+        Stage::Data { head, bytes } => take_data(alloc, offer, agreed, head, bytes, front, out),
         Stage::Discard { option, missing } => {
             discard(alloc, agreed, option, missing, front, out)
         }

@@ -1,11 +1,12 @@
 ghost use Rattle.std.specs.Prelude.{◌≡◌, ℕ, ◌+◌, ◌-◌, ◌≤◌, ◌<◌, ◌++◌, length, vec_len, IfOk, OnErr};
 ghost use Rattle.option_wire.specs.Head.{option_head};
-ghost use Rattle.negotiation.specs.Answered.{AreShort};
+ghost use Rattle.negotiation.specs.Answered.{AreShort, Offer};
 ghost use Rattle.negotiation.specs.Dialog.{Leaves, kept_limit, most_bytes};
 ghost use Rattle.negotiation.specs.Session.{IsGreeted, standing_of};
 ghost use Rattle.negotiation.specs.inner.Session.{IsLongPart, IsPart, Step, TakesFlags, standing_behind, wanted_of, IsData, Settles};
 
 use crate::answer::{Agreed, Next, OptionAnswer};
+use crate::offer::OfferedExport;
 use crate::option::{answer_data, refuse_option};
 use nbd_wire::StreamReader;
 use option_wire::{EXPORT_NAME, OptionError, OptionHead, decode_client_flags, decode_option_head};
@@ -112,7 +113,7 @@ pub fn take_flags(
 // Takes the next of what stands before an option's data.
 pub fn take_head(
     alloc: Global,
-    size: u64,
+    offer: &OfferedExport,
     agreed: Agreed,
     bytes: Vec<u8>,
     front: &[u8],
@@ -120,7 +121,7 @@ pub fn take_head(
 ) -> Result<Talk, AllocError>
     requires { vec_len bytes + length front.now ≤ 16 }
     ensures sound { IfOk result (λ talk. IsGreeted talk.stage) }
-    ensures takes { IfOk result (Step agreed size (λ text. text ≡ bytes.items ++ front.now) out.old.items out.new.items) }
+    ensures takes { IfOk result (Step agreed offer.now (λ text. text ≡ bytes.items ++ front.now) out.old.items out.new.items) }
     ensures err { OnErr result (out.new.items ≡ out.old.items) }
 {
     let mut bytes = bytes;
@@ -131,19 +132,19 @@ pub fn take_head(
     }
     let mut whole = [0; HEAD_LEN];
     whole.copy_from_slice(&bytes);
-    begin(alloc, size, agreed, &whole, out)
+    begin(alloc, offer, agreed, &whole, out)
 }
 
 // Decides by what stands before an option's data what becomes of them; an option with no data is whole.
 fn begin(
     alloc: Global,
-    size: u64,
+    offer: &OfferedExport,
     agreed: Agreed,
     bytes: &[u8; 16],
     out: &mut Vec<u8>,
 ) -> Result<Talk, AllocError>
     ensures sound { IfOk result (λ talk. IsGreeted talk.stage) }
-    ensures takes { IfOk result (Step agreed size (λ text. text ≡ bytes.now) out.old.items out.new.items) }
+    ensures takes { IfOk result (Step agreed offer.now (λ text. text ≡ bytes.now) out.old.items out.new.items) }
     ensures err { OnErr result (out.new.items ≡ out.old.items) }
 {
     let Ok(head) = decode_option_head(bytes) else {
@@ -151,7 +152,7 @@ fn begin(
         return Ok(Talk { agreed, stage });
     };
     if head.length == 0 {
-        return close(alloc, size, agreed, head.option, &[], out);
+        return close(alloc, offer, agreed, head.option, &[], out);
     }
     let stage = data_stage(alloc, head.option, head.length);
     Ok(Talk { agreed, stage })
@@ -191,7 +192,7 @@ fn data_stage(alloc: Global, option: u32, length: u32) -> Stage
 // Takes the next of an option's data.
 pub fn take_data(
     alloc: Global,
-    size: u64,
+    offer: &OfferedExport,
     agreed: Agreed,
     head: OptionHead,
     bytes: Vec<u8>,
@@ -201,7 +202,7 @@ pub fn take_data(
     requires wanted { vec_len bytes + length front.now ≤ head.length }
     requires kept { head.length ≤ kept_limit }
     ensures sound { IfOk result (λ talk. IsGreeted talk.stage) }
-    ensures takes { IfOk result (Step agreed size (IsPart head.option head.length (bytes.items ++ front.now)) out.old.items out.new.items) }
+    ensures takes { IfOk result (Step agreed offer.now (IsPart head.option head.length (bytes.items ++ front.now)) out.old.items out.new.items) }
     ensures err { OnErr result (out.new.items ≡ out.old.items) }
 {
     let mut bytes = bytes;
@@ -210,7 +211,7 @@ pub fn take_data(
         let stage = Stage::Data { head, bytes };
         return Ok(Talk { agreed, stage });
     }
-    close(alloc, size, agreed, head.option, &bytes, out)
+    close(alloc, offer, agreed, head.option, &bytes, out)
 }
 
 // Passes over bytes of data that aren't kept.
@@ -224,7 +225,7 @@ pub fn discard(
 ) -> Result<Talk, AllocError>
     requires { length front.now ≤ missing }
     ensures sound { IfOk result (λ talk. IsGreeted talk.stage) }
-    ensures takes { IfOk result (λ talk. (size : ℕ) → Step agreed size (IsLongPart option (missing - length front.now)) out.old.items out.new.items talk) }
+    ensures takes { IfOk result (λ talk. (offer : Offer) → Step agreed offer (IsLongPart option (missing - length front.now)) out.old.items out.new.items talk) }
     ensures err { OnErr result (out.new.items ≡ out.old.items) }
 {
     let missing = missing - front.len() as u32;
@@ -239,7 +240,7 @@ pub fn discard(
 // Answers an option whose data are whole.
 fn close(
     alloc: Global,
-    size: u64,
+    offer: &OfferedExport,
     agreed: Agreed,
     option: u32,
     bytes: &[u8],
@@ -247,10 +248,10 @@ fn close(
 ) -> Result<Talk, AllocError>
     requires { length bytes.now ≤ kept_limit }
     ensures sound { IfOk result (λ talk. IsGreeted talk.stage) }
-    ensures takes { IfOk result (Step agreed size (IsData option bytes.now) out.old.items out.new.items) }
+    ensures takes { IfOk result (Step agreed offer.now (IsData option bytes.now) out.old.items out.new.items) }
     ensures err { OnErr result (out.new.items ≡ out.old.items) }
 {
-    let answer = answer_data(alloc, option, bytes, agreed, size)?;
+    let answer = answer_data(alloc, option, bytes, agreed, offer)?;
     settle(alloc, option, &answer, out)
 }
 

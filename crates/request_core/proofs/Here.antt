@@ -11,10 +11,13 @@ use Rattle.nbd_wire.specs.Request.{Message}
 use Rattle.nbd_wire.specs.declared.error.Errno.{Errno}
 use Rattle.nbd_wire.specs.declared.head.RequestHead.{RequestHead}
 use Rattle.nbd_wire.specs.declared.message.Answer.{Answer}
+use Rattle.nbd_wire.specs.declared.error.Errno.TheVariants.{Io, NoMemory}
+use Rattle.nbd_wire.specs.declared.message.Answer.TheVariants.{Refused}
+use Rattle.request_core.proofs.Passes.{shown_leaves}
 use Rattle.order_book.specs.Order.{OrderState}
 use Rattle.request_core.specs.Outcomes.{IsServedBy, IsServedHere}
 use Rattle.request_core.specs.Reading.{IsHeldRead, IsHeldReadServed, IsRead, IsReadServed}
-use Rattle.request_core.specs.Serving.{IsAcceptedFor, IsPassServed, ready_for}
+use Rattle.request_core.specs.Serving.{IsAcceptedFor, IsAnsweredFor, IsPassServed, ready_for}
 use Rattle.request_core.specs.declared.serving.Served.{Served}
 use Rattle.export_model.specs.declared.action.Action.{Action}
 use Rattle.export_model.specs.declared.action.Action.TheVariants.{End, Serve}
@@ -71,13 +74,13 @@ module _ {D : Type 0} (state : D → State) (faults : D → ℕ) (honest : D →
 
   -- and its pass knows what it knew
   module _ (opening : ℕ) (request : Message) (result : Served) (pass : PassState) where
-    answered : (before after : ℕ) (cookie : ℕ) (given : Answer) → after ≡ before → result ≡ ready_for cookie given → IsPassServed opening request before after result pass pass
-    answered before after cookie given same is =
+    answered : (before after : ℕ) (cookie : ℕ) (given : Answer) → IsAnsweredFor opening after given pass pass → after ≡ before → result ≡ ready_for cookie given → IsPassServed opening request before after result pass pass
+    answered before after cookie given left same is =
         subst (λ (r : Served). IsPassServed opening request before after r pass pass) (sym is)
         (let none : nat_lt before after ≡ false = grind (arith, nat_tests, same) in
-        subst (λ (b : Bool). MatchBool b (IsAcceptedFor opening request after pass pass) (pass ≡ pass)) (sym none) refl)
+        subst (λ (b : Bool). MatchBool b (IsAcceptedFor opening request after pass pass) (IsAnsweredFor opening after given pass pass)) (sym none) left)
 
     pub read_passes : (head : RequestHead) (old new : OrderState) (next : KeeperState D) → IsReadServed state faults honest head old new keeper next result → IsPassServed opening request old.mark new.mark result pass pass
-    read_passes head old new next (inl none) = answered old.mark new.mark head.cookie _ (ap (λ (o : OrderState). o.mark) none.0) none.2
-    read_passes head old new next (inr (inl read)) = answered old.mark new.mark head.cookie _ (ap (λ (o : OrderState). o.mark) read.order) read.answer
-    read_passes head old new next (inr (inr unread)) = answered old.mark new.mark head.cookie _ (ap (λ (o : OrderState). o.mark) unread.order) unread.answer
+    read_passes head old new next (inl none) = answered old.mark new.mark head.cookie (Refused NoMemory) refl (ap (λ (o : OrderState). o.mark) none.0) none.2
+    read_passes head old new next (inr (inl read)) = answered old.mark new.mark head.cookie _ (shown_leaves opening new.mark read.image head pass) (ap (λ (o : OrderState). o.mark) read.order) read.answer
+    read_passes head old new next (inr (inr unread)) = answered old.mark new.mark head.cookie (Refused Io) refl (ap (λ (o : OrderState). o.mark) unread.order) unread.answer

@@ -14,6 +14,7 @@ use Rattle.image_model.specs.declared.geometry.Geometry.{Geometry}
 use Rattle.image_model.specs.laws.Becoming.{becomes_change}
 use Rattle.marks.specs.Known.{Numbered, PassState, known}
 use Rattle.nbd_wire.specs.Request.{Message}
+use Rattle.nbd_wire.specs.declared.message.Answer.TheVariants.{Done}
 use Rattle.order_book.specs.Edits.{IsMissing, NeedsDevice, TakesEdit, image_in, is_in_part}
 use Rattle.order_book.specs.Order.{OrderState, has_room_for, refusal_for}
 use Rattle.order_book.specs.Shown.{ShowsImage}
@@ -23,7 +24,7 @@ use Rattle.order_book.specs.declared.fault.OrderFault.TheVariants.{NumbersFull, 
 use Rattle.order_book.specs.laws.Edited.{room_shown}
 use Rattle.request_core.specs.Outcomes.{IsEditRefused}
 use Rattle.request_core.specs.Reading.{IsUnread}
-use Rattle.request_core.specs.Serving.{IsAcceptedFor, IsPassServed, IsRoom, IsShownTo, IsTaken, served_after}
+use Rattle.request_core.specs.Serving.{IsAcceptedFor, IsAnsweredFor, IsPassServed, IsRoom, IsShownTo, IsTaken, served_after}
 use Rattle.request_core.specs.declared.serving.Served.{Served}
 use Rattle.request_core.proofs.Olds.{takes_there}
 use Rattle.export_model.specs.Log.{edit_asked, is_flush, waits_for_store}
@@ -135,7 +136,7 @@ module _ (opening : ℕ) (request : Message) (kept : Mode) (old new : OrderState
   by_waits false =
       let mark : new.mark ≡ old.mark + 1 = ap (λ (o : OrderState). o.mark) taken.taken in
       let more : nat_lt old.mark new.mark ≡ true = ap (nat_lt old.mark) mark ∙ lt-ltb old.mark (old.mark + 1) (omega arith) in
-      subst (λ (b : Bool). MatchBool b (IsAcceptedFor opening request new.mark before after) (after ≡ before)) (sym more)
+      subst (λ (b : Bool). MatchBool b (IsAcceptedFor opening request new.mark before after) (IsAnsweredFor opening new.mark Done before after)) (sym more)
       (subst (λ (n : ℕ). IsAcceptedFor opening request n before after) (sym mark) accepted_for)
 
   pub taken_passes : (result : Served) → result ≡ served_after (waits_for_store kept request) request.head.cookie (old.mark + 1) → IsPassServed opening request old.mark new.mark result before after

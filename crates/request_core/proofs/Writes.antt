@@ -11,7 +11,7 @@ use Rattle.order_book.specs.Order.{OrderState, has_room_for}
 use Rattle.export_model.specs.Log.{cleared_as, edit_asked, waits_for_store}
 use Rattle.export_model.specs.Verdict.{IsServedRange}
 use Rattle.export_model.specs.declared.step.Mode.{Mode}
-use Rattle.export_model.specs.declared.step.Mode.TheVariants.{Writeback, Writethrough}
+use Rattle.export_model.specs.declared.step.Mode.TheVariants.{Writeback, Writethrough, Ordered}
 
 -- where neither numbers nor room are wanting
 pub some_left : {F N : Type 0} (order : OrderState) (given : Change) → (F ↔ ((order.stopped ≡ false) × (order.mark ≡ 18446744073709551615)))
@@ -34,6 +34,7 @@ some_left order given full none no_full no_none works below = (left, by_room (ca
 pub waits_same : (mode : Mode) (head : RequestHead) (request : Message) → head ≡ request.head
     → waits_for_store mode (record { head = head; bytes = [] }) ≡ waits_for_store mode request
 waits_same Writethrough head request is = refl
+waits_same Ordered head request is = refl
 waits_same Writeback head request is = ap (λ (h : RequestHead). bit_and h.flags 1 == 1) is
 
 -- the edit of each write request, and that an image takes it where the request passes judgement

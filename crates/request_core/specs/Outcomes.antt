@@ -16,22 +16,21 @@ use Rattle.nbd_wire.specs.declared.message.Answer.TheVariants.{Refused}
 use Rattle.order_book.specs.Edits.{NeedsDevice as NeedsOld}
 use Rattle.order_book.specs.Order.{OrderState, has_room_for}
 use Rattle.request_core.specs.Reading.{IsHeldReadServed, IsKnownBy, IsReadServed, IsStatusServed, IsUnread}
-use Rattle.request_core.specs.Serving.{IsWriteServed, ready_for}
+use Rattle.request_core.specs.Serving.{IsWriteServed, ready_for, served_after}
 use Rattle.request_core.specs.declared.serving.Served.{Served}
-use Rattle.request_core.specs.declared.serving.Served.TheVariants as served
 use Rattle.shared_cache.specs.Cache.{LacksBytes}
-use Rattle.export_model.specs.Log.{edit_asked, is_flush, is_write}
+use Rattle.export_model.specs.Log.{edit_asked, flush_waits, is_flush, is_write}
 use Rattle.export_model.specs.Serve.{takes_old_bytes}
 use Rattle.export_model.specs.declared.action.Action.{Action}
 use Rattle.export_model.specs.declared.step.Mode.{Mode}
 
 -- What a request that passes judgement, and for which the device isn't asked, makes of an order, but for a READ: after a device
--- fault EIO, a FLUSH waits for the last number, a BLOCK_STATUS shows the states, and an edit becomes the same over each image that
+-- fault EIO, a FLUSH waits for the last number or is answered at once, a BLOCK_STATUS shows the states, and an edit becomes the same over each image that
 -- memory shows.
 abbrev pub IsPassed : Message → Geometry → Mode → OrderState → OrderState → Served → Type 0
 IsPassed request geometry kept old new result =
     ((old.stopped ≡ true) × (new ≡ old) × (result ≡ ready_for request.head.cookie (Refused Io)))
-    ⊎ ((old.stopped ≡ false) × (is_flush request ≡ true) × (new ≡ old) × (result ≡ served.Wait old.mark))
+    ⊎ ((old.stopped ≡ false) × (is_flush request ≡ true) × (new ≡ old) × (result ≡ served_after (flush_waits kept) request.head.cookie old.mark))
     ⊎ ((old.stopped ≡ false) × (request.head.kind ≡ 7) × (new ≡ old) × IsStatusServed request.head old result)
     ⊎ ((old.stopped ≡ false) × (is_flush request ≡ false) × (request.head.kind ≢ 0) × (request.head.kind ≢ 7) × IsWriteServed request geometry kept (λ image. ShowsImage image old.cache) old new result)
 

@@ -15,14 +15,14 @@ use Rattle.request_core.specs.declared.serving.Served.{Served}
 use Rattle.request_core.specs.declared.serving.Served.TheVariants as served
 use Rattle.export_model.specs.Log.{edit_asked, is_flush, waits_for_store}
 use Rattle.nbd_wire.specs.declared.message.Answer.{Answer}
-use Rattle.nbd_wire.specs.declared.message.Answer.TheVariants.{Done, Refused}
+use Rattle.nbd_wire.specs.declared.message.Answer.TheVariants.{Bytes, Done, Refused, States}
 use Rattle.export_model.specs.declared.step.Mode.{Mode}
 
 -- an answer to the request with this cookie
 abbrev pub ready_for : ℕ → Answer → Served
 ready_for number given = served.Ready (record { cookie = number; answer = given })
 
--- what a write command comes to that has got a number
+-- what a request comes to that waits for this number, or is answered at once
 abbrev pub served_after : Bool → ℕ → ℕ → Served
 served_after true cookie number = served.Wait number
 served_after false cookie number = ready_for cookie Done
@@ -79,10 +79,19 @@ pub record IsShownTo (opening number : ℕ) (old new : PassState) : Type 0 where
   pub place : number ≡ opening + length new.history
   pub pass : new ≡ record old { history = new.history; accepted = number }
 
+-- What a pass knows whose request was answered and ordered no command. Ok is the answer to a FLUSH that doesn't wait: all of the order
+-- was shown to its pass. All else leaves the pass.
+abbrev pub IsAnsweredFor : ℕ → ℕ → Answer → PassState → PassState → Type 0
+IsAnsweredFor opening number Done old new = IsShownTo opening number old new
+IsAnsweredFor opening number (Refused error) old new = new ≡ old
+IsAnsweredFor opening number (Bytes read) old new = new ≡ old
+IsAnsweredFor opening number (States runs) old new = new ≡ old
+
 -- What a pass knows once a request was served for it, where the last number of the order went from one to another. The number of a
--- command is above all that the pass knew, and is then its own; a FLUSH waits for no less than what it knew; all else leaves it.
+-- command is above all that the pass knew, and is then its own; a FLUSH is shown all of the order, and waits for no less than what it
+-- knew, if it waits; all else leaves it.
 abbrev pub IsPassServed : ℕ → Message → ℕ → ℕ → Served → PassState → PassState → Type 0
-IsPassServed opening request before after (served.Ready reply) old new = MatchBool (nat_lt before after) (IsAcceptedFor opening request after old new) (new ≡ old)
+IsPassServed opening request before after (served.Ready reply) old new = MatchBool (nat_lt before after) (IsAcceptedFor opening request after old new) (IsAnsweredFor opening after reply.answer old new)
 IsPassServed opening request before after (served.Wait number) old new =
     MatchBool (is_flush request) (IsShownTo opening number old new) (IsAcceptedFor opening request number old new)
 IsPassServed opening request before after (served.NoRoom back) old new = new ≡ old

@@ -6,7 +6,7 @@ ghost use Rattle.order_book.specs.Shown.{ShowsImage};
 ghost use Rattle.request_core.specs.Outcomes.{IsServedBy, IsServedHere, IsWriteAsked, NeedsDevice};
 ghost use Rattle.shared_cache.specs.Cache.{LacksBytes};
 ghost use Rattle.request_core.specs.Serving.{IsPassServed, IsWriteServed, ready_for, served_after};
-ghost use Rattle.export_model.specs.Log.{edit_asked, is_write, waits_for_store};
+ghost use Rattle.export_model.specs.Log.{edit_asked, flush_waits, is_write, waits_for_store};
 ghost use Rattle.export_model.specs.Verdict.{IsServedRange, verdict};
 ghost use Rattle.export_model.specs.declared.action.Action.{Action};
 
@@ -26,7 +26,7 @@ use nbd_wire::{
 use order_book::{Order, OrderFault};
 use std::alloc::Global;
 
-/// What every request is judged by, and how long a write waits.
+/// What every request is judged by, and how long a write and a FLUSH wait.
 #[derive(Clone, Copy)]
 pub struct Terms {
     pub geometry: Geometry,
@@ -73,8 +73,9 @@ pub fn serve_held<B: BoardName>(
     ensures range { OnErr result (request.head.kind ≢ 3 → IsServedRange request.head terms.geometry) }
     ensures unchanged { OnErr result ((order.new ≡ order.old) × (pass.new ≡ pass.old)) }
 
-    // What the pass knows then: a command's number is above all that it knew, a FLUSH waits for no less than that, and the history
-    // that it then knows begins with the one that it knew. One for which a command was accepted knows all of the order's.
+    // What the pass knows then: a command's number is above all that it knew, a FLUSH is shown all of the order, which is no less than
+    // that, and the history that it then knows begins with the one that it knew. One for which a command was accepted knows all of
+    // the order's.
     ensures pass { IfOk result (λ served. IsPassServed B.opening request order.old.mark order.new.mark served pass.old pass.new) }
     ensures grown { order.old.mark < order.new.mark → pass.new.history ≡ order.new.history }
 {
@@ -110,7 +111,7 @@ fn serve_passed<B: BoardName>(
 {
     let head = request.head();
     match head.kind {
-        FLUSH => Ok(Served::Wait(order.show_mark(board, pass))),
+        FLUSH => Ok(flushed(&head, terms.mode, order.show_mark(board, pass))),
         READ => {
             let blocks = Blocks::of(&head);
             if order.holds(blocks.first, blocks.count) {
@@ -154,8 +155,9 @@ pub fn serve_with_keeper<B: BoardName, D: Disk>(
     // A READ of blocks that are all in memory leaves the order too.
     ensures hit { request.head.kind ≡ 0 → (LacksBytes order.old.cache (request.head.offset / 4096) (blocks_met request.head.offset request.head.length) → ⊥) → (order.new ≡ order.old) × (keeper.new ≡ keeper.old) }
 
-    // What the pass knows then: a command's number is above all that it knew, a FLUSH waits for no less than that, and the history
-    // that it then knows begins with the one that it knew. One for which a command was accepted knows all of the order's.
+    // What the pass knows then: a command's number is above all that it knew, a FLUSH is shown all of the order, which is no less than
+    // that, and the history that it then knows begins with the one that it knew. One for which a command was accepted knows all of
+    // the order's.
     ensures pass { IsPassServed B.opening request order.old.mark order.new.mark result pass.old pass.new }
     ensures grown { order.old.mark < order.new.mark → pass.new.history ≡ order.new.history }
 {
@@ -260,7 +262,7 @@ fn failed<B: BoardName>(order: &mut Order<B>, cookie: u64) -> Served
     refused(cookie, Errno::Io)
 }
 
-// Whether the answer to a write command waits until it is durable.
+// Whether the answer to a write command waits until it is durable: never in ordered.
 fn waits(head: &RequestHead, mode: Mode) -> bool
     ensures { result ≡ waits_for_store mode (record { head = head.now; bytes = [] }) }
 {
@@ -268,7 +270,28 @@ fn waits(head: &RequestHead, mode: Mode) -> bool
     match mode {
         Mode::Writethrough => true,
         Mode::Writeback => head.flags & fua == fua,
+        Mode::Ordered => false,
     }
+}
+
+// What a FLUSH comes to whose pass was shown all of the order, up to this number: in ordered it waits for nothing.
+fn flushed(head: &RequestHead, mode: Mode, last: u64) -> Served
+    ensures { result ≡ served_after (flush_waits mode) head.now.cookie last }
+{
+    match mode {
+        Mode::Writethrough => Served::Wait(last),
+        Mode::Writeback => Served::Wait(last),
+        Mode::Ordered => done(head),
+    }
+}
+
+fn done(head: &RequestHead) -> Served
+    ensures { result ≡ ready_for head.now.cookie Answer.Done }
+{
+    Served::Ready(Reply {
+        cookie: head.cookie,
+        answer: Answer::Done,
+    })
 }
 
 // What a write command comes to that has got this number.
@@ -278,9 +301,6 @@ fn accepted(head: &RequestHead, mode: Mode, number: u64) -> Served
     if waits(head, mode) {
         Served::Wait(number)
     } else {
-        Served::Ready(Reply {
-            cookie: head.cookie,
-            answer: Answer::Done,
-        })
+        done(head)
     }
 }

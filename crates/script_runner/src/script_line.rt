@@ -149,6 +149,7 @@ fn crash(operands: &[&str]) -> Option<Line> {
 fn ways_of(words: &[&str]) -> Option<(Mode, Layout)> {
     let (mode, words) = match words {
         ["writethrough", rest @ ..] => (Mode::Writethrough, rest),
+        ["ordered", rest @ ..] => (Mode::Ordered, rest),
         _ => (Mode::Writeback, words),
     };
     match words {

@@ -1,8 +1,9 @@
 use crate::client_registry::ClientRegistry;
 use export::{Point, SyncPoints};
+use std::alloc::Global;
 use std::cell::Cell;
 use std::fmt::{self, Display, Formatter};
-use std::io::{self, Read, Write};
+use std::io::{self, ErrorKind, IoSlice, Read, Write};
 use std::net::{Shutdown, TcpStream};
 use std::os::unix::net::UnixStream;
 use std::time::Duration;
@@ -41,6 +42,15 @@ impl Client {
         }
     }
 
+    // Sends what it takes of these two pieces, by one call.
+    fn send<'b>(&self, first: &'b [u8], second: &'b [u8]) -> io::Result<usize> {
+        let pieces = [IoSlice::new(first), IoSlice::new(second)];
+        match self {
+            Client::Tcp(stream) => stream.write_vectored(&pieces),
+            Client::Unix(stream) => stream.write_vectored(&pieces),
+        }
+    }
+
     /// Ends its input, its output or both. A read that waits finds the end; and who waits at a listener that is shut wakes.
     pub(crate) fn shut_down(&self, how: Shutdown) {
         // Where it fails the client has gone.
@@ -76,26 +86,85 @@ impl<'a> Read for Input<'a> {
     }
 }
 
-/// What a client is sent.
-#[derive(Drop)]
-pub(crate) struct Output<'a>(pub &'a Client);
+// The most bytes that are held: the head of a reply, and short replies before it.
+const MOST_HELD: usize = 1_024;
 
-impl<'a> Write for Output<'a> {
-    fn write(&mut self, buf: &[u8]) -> io::Result<usize> {
-        match self.0 {
-            Client::Tcp(stream) => {
-                let mut stream = stream;
-                stream.write(buf)
-            }
-            Client::Unix(stream) => {
-                let mut stream = stream;
-                stream.write(buf)
-            }
+/// What a client is sent. A short piece is held until it is handed on, or until the next piece, with which it goes out by one call: so
+/// the client of a long READ wakes once for its reply, and not once for the head and once for the data.
+#[derive(Drop)]
+pub(crate) struct Output<'a> {
+    client: &'a Client,
+    held: Vec<u8>,
+    // How many of the bytes that are held have been sent.
+    sent: usize,
+}
+
+impl<'a> Output<'a> {
+    /// Without memory nothing is held.
+    pub(crate) fn new(alloc: Global, client: &'a Client) -> Output<'a> {
+        let held = match Vec::with_capacity(alloc, MOST_HELD) {
+            Ok(held) => held,
+            Err(_) => Vec::new(alloc),
+        };
+        Output {
+            client,
+            held,
+            sent: 0,
         }
     }
 
+    // What is held and wasn't sent yet.
+    fn waiting(&self) -> &[u8] {
+        self.held.get(self.sent..).unwrap_or(&[])
+    }
+
+    // Notes that so many bytes of what is held are sent.
+    fn note_sent(&mut self, count: usize) {
+        self.sent = self.sent.saturating_add(count);
+        if self.sent >= self.held.len() {
+            self.held.clear();
+            self.sent = 0;
+        }
+    }
+}
+
+impl<'a> Write for Output<'a> {
+    fn write(&mut self, buf: &[u8]) -> io::Result<usize> {
+        if self.held.is_empty() && buf.len() <= MOST_HELD && self.held.capacity() >= MOST_HELD {
+            self.held.extend_from_slice(buf)?;
+            return Ok(buf.len());
+        }
+        // (Each call sends one byte at least.)
+        for _ in 0..MOST_HELD {
+            let waiting = self.waiting().len();
+            if waiting == 0 {
+                break;
+            }
+            let count = self.client.send(self.waiting(), buf)?;
+            if count == 0 {
+                return Ok(0);
+            }
+            self.note_sent(count.min(waiting));
+            if count > waiting {
+                return Ok((count - waiting).min(buf.len()));
+            }
+        }
+        let count = self.client.send(&[], buf)?;
+        Ok(count.min(buf.len()))
+    }
+
     fn flush(&mut self) -> io::Result<()> {
-        Ok(())
+        for _ in 0..=MOST_HELD {
+            if self.waiting().is_empty() {
+                return Ok(());
+            }
+            let count = self.client.send(self.waiting(), &[])?;
+            if count == 0 {
+                break;
+            }
+            self.note_sent(count);
+        }
+        Err(io::Error::from(ErrorKind::WriteZero))
     }
 }
 

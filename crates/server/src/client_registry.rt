@@ -296,6 +296,13 @@ impl ClientRegistry {
         self.changed.notify_all();
     }
 
+    /// Takes no more clients, and cuts those off that are served.
+    pub(crate) fn cut_off<R: Wait>(&self, rt: &R) {
+        let mut places = self.places.lock(rt);
+        self.refuse_more(&mut *places);
+        places.shut_down_all(Shutdown::Both);
+    }
+
     /// Takes no more clients, and ends the input of those that are served. What they have sent is answered first; one that takes
     /// no answer is let go after a while.
     pub(crate) fn close<R: Wait + Clock>(&self, rt: &R) {

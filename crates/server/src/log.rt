@@ -55,12 +55,21 @@ pub enum Event<'a> {
     },
 }
 
-/// A server's export, of which figures are read while it serves.
+/// A server's export, as it is watched while it serves.
 pub trait Watched {
     fn figures(&self) -> ExportFigures;
+
+    /// Waits until all that is accepted by now is stored; the number of the last of it. None if it never will be.
+    fn store(&self) -> Option<u64>;
+    /// A call of the device has failed by another handle than the keeper's: requests are refused from now on, and the server comes to
+    /// its end as after any fault of the device.
+    fn fail(&self);
+
+    /// Cuts all connections, and takes no more clients.
+    fn cut_off(&self);
 }
 
-/// Who is told what happens, and who answers those that ask for figures.
+/// Who is told what happens, who answers those that ask for figures, and who guards the device.
 pub trait Log {
     /// Clients are served from now on: all threads are there. If this can't be told the server ends.
     fn announce(&self) -> io::Result<()>;
@@ -75,6 +84,12 @@ pub trait Log {
 
     /// What each of those threads does, until `end_answers`.
     fn answer<W: Watched>(&self, watched: &W);
+
+    /// How many threads guard the device.
+    fn guards(&self) -> u32;
+
+    /// What each of those threads does, counted from 0, until `end_answers`.
+    fn guard<W: Watched>(&self, at: u32, watched: &W);
 
     /// Ends those threads: no client will be served any more.
     fn end_answers(&self);
@@ -97,6 +112,12 @@ impl Log for () {
     }
 
     fn answer<W: Watched>(&self, _watched: &W) {}
+
+    fn guards(&self) -> u32 {
+        0
+    }
+
+    fn guard<W: Watched>(&self, _at: u32, _watched: &W) {}
 
     fn end_answers(&self) {}
 }

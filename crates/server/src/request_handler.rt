@@ -1,4 +1,5 @@
 ghost use Rattle.export.specs.Submits.{IsJudged, IsSubmitted};
+ghost use Rattle.export_model.specs.Log.{flush_waits};
 ghost use Rattle.export_model.specs.Verdict.{verdict};
 ghost use Rattle.image_model.specs.Image.{apply_all};
 ghost use Rattle.shared_store.specs.Answers.{TellsImage};
@@ -16,7 +17,7 @@ use nbd_wire::{
     Answer, BLOCK_STATUS, CommandFlags, FLUSH, READ, Reply, Request, RequestHead, SessionFlags,
     TRIM, WRITE, WRITE_ZEROES,
 };
-use negotiation::Serve;
+use negotiation::{OfferedName, Serve};
 use std::cell::Cell;
 use std::rt::Clock;
 use std::sync::Wait;
@@ -36,10 +37,14 @@ pub struct RequestHandler<'a, B: ExportName, D: Disk, H: ReadBeside, R: Wait + C
     pub log: L,
     // How long the client may say nothing once its handshake is over; None for no end.
     pub idle_limit: Option<Duration>,
+    // How old a pending command may be when a write is accepted; None for no end.
+    pub loss_age: Option<Duration>,
     // Whether what is written to the client is replies.
     pub is_replying: &'a Cell<bool>,
     // Whether its handshake is over, for other threads.
     pub has_agreed: &'a AtomicBool,
+    // The name that clients ask for the export by.
+    pub name: OfferedName<'a>,
 }
 
 impl<'a, B: ExportName, D: Disk, H: ReadBeside, R: Wait + Clock, L: Log> Serve<Pass<B>>
@@ -50,17 +55,24 @@ impl<'a, B: ExportName, D: Disk, H: ReadBeside, R: Wait + Clock, L: Log> Serve<P
 
     ghost extent = { λ handler. handler.export.now.geometry };
 
+    ghost name = { λ handler. handler.name.bytes.now };
+
+    ghost flushes = { λ handler. flush_waits handler.export.now.mode };
+
     fn geometry(&self) -> Geometry {
         self.export.geometry
     }
 
+    fn name(&self) -> OfferedName<'_> {
+        self.name
+    }
+
+    fn flushes(&self) -> bool {
+        self.export.mode != Mode::Ordered
+    }
+
     fn may_wait(&self, head: &RequestHead) -> bool {
-        let fua = CommandFlags::FUA.bits();
-        match head.kind {
-            FLUSH => true,
-            READ | BLOCK_STATUS => false,
-            _ => self.export.mode == Mode::Writethrough || head.flags & fua == fua,
-        }
+        self.waits_for_store(head) || (self.loss_age.is_some() && is_write(head))
     }
 
     fn handshake_is_over(&self) {
@@ -73,7 +85,8 @@ impl<'a, B: ExportName, D: Disk, H: ReadBeside, R: Wait + Clock, L: Log> Serve<P
     fn serve(&self, pass: &mut Pass<B>, request: Request, flags: &SessionFlags) -> Reply {
         let head = request.head();
         self.count(&request, flags);
-        let began = if self.log.is_timed() {
+        self.wait_for_older(&head);
+        let began = if self.log.is_timed() || self.loss_age.is_some() {
             Instant::now(self.rt).ok()
         } else {
             None
@@ -99,10 +112,28 @@ impl<'a, B: ExportName, D: Disk, H: ReadBeside, R: Wait + Clock, L: Log> Request
     R,
     L,
 > {
+    // Whether a request with this head is answered once something is stored.
+    fn waits_for_store(&self, head: &RequestHead) -> bool {
+        let fua = CommandFlags::FUA.bits();
+        match (self.export.mode, head.kind) {
+            (_, READ | BLOCK_STATUS) | (Mode::Ordered, _) => false,
+            (_, FLUSH) | (Mode::Writethrough, _) => true,
+            (Mode::Writeback, _) => head.flags & fua == fua,
+        }
+    }
+
+    // Has a write wait while another one is pending for too long.
+    fn wait_for_older(&self, head: &RequestHead) {
+        match self.loss_age {
+            Some(limit) if is_write(head) => self.export.wait_while_older(self.rt, limit),
+            _ => {}
+        }
+    }
+
     // Slows a client down that writes faster than the journal is copied; for how long, where it did. It also notes since when a
     // command may be pending that was answered before it was stored.
     fn slow_down(&self, head: &RequestHead, began: Option<Instant>) -> Option<Duration> {
-        if self.may_wait(head) {
+        if self.waits_for_store(head) {
             return None;
         }
         match (head.kind, began) {
@@ -160,4 +191,9 @@ impl<'a, B: ExportName, D: Disk, H: ReadBeside, R: Wait + Clock, L: Log> Request
         }
         self.traffic.set(traffic);
     }
+}
+
+// Whether a request with this head asks for a write command.
+fn is_write(head: &RequestHead) -> bool {
+    matches!(head.kind, WRITE | TRIM | WRITE_ZEROES)
 }

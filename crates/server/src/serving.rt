@@ -17,6 +17,7 @@ use export::{
 };
 use front_end::{Refusal, ServeOptions};
 use marks::Pass;
+use negotiation::OfferedName;
 use std::alloc::Global;
 use std::io::{ErrorKind, Read};
 use std::marker::Brand;
@@ -24,7 +25,7 @@ use std::rt::Clock;
 use std::sync::{Arc, Wait};
 use std::thread::{self, Scope, Threads};
 
-/// Serves the clients that arrive at sockets from a device that was opened, and gives the device back once the server has come
+/// Serves the clients that arrive at sockets and ask for this name, from a device that was opened, and gives the device back once the server has come
 /// to its end: as many sessions have ended as the options say, `input` has ended where they say so, or a call of the device has
 /// failed. `watch` is told once all threads are there, and what happens, and may hold the threads. Refusals 0 (no memory, and nobody was served), 1 (device fault, or
 /// not all is stored) and 21 (the socket). When it ends, and with which of them, isn't said.
@@ -39,6 +40,7 @@ pub fn serve<D, H, R, I, G>(
     listeners: Vec<Listener>,
     input: I,
     options: ServeOptions,
+    name: OfferedName<'_>,
     watch: G,
 ) -> (Result<(), Refusal>, D)
 where
@@ -57,7 +59,7 @@ where
     opened_device_law::<D>();
     match open_registry(rt, alloc, listeners, input, &options) {
         Ok(registry) => serve_over::<Brand, D, H, R, G>(
-            rt, alloc, device, &registry, options, watch,
+            rt, alloc, device, &registry, options, name, watch,
         ),
         Err(refusal) => (Err(refusal), device.keeper.into_disk()),
     }
@@ -121,6 +123,7 @@ fn serve_over<B, D, H, R, G>(
     device: OpenDevice<D, H>,
     registry: &ClientRegistry,
     options: ServeOptions,
+    name: OfferedName<'_>,
     watch: G,
 ) -> (Result<(), Refusal>, D)
 where
@@ -145,8 +148,9 @@ where
     let failures = device.failures;
     match open_export::<B, D, H>(alloc, device, &options) {
         Ok((export, passes, last)) => {
-            let pool = WorkerPool::new(alloc, registry, passes, last, options.limits.sessions);
-            let (served, mut last) = serve_clients(rt, pool, &export, options, watch);
+            let sessions = options.limits.sessions;
+            let pool = WorkerPool::new(rt, alloc, registry, &export, passes, last, sessions);
+            let (served, mut last) = serve_clients(rt, pool, &export, options, name, watch);
             let (disk, is_stored) = export.close(&mut last);
             let has_failed = disk.failures() != failures;
             (end_of(served, has_failed, is_stored), disk)
@@ -167,7 +171,7 @@ fn end_of(served: Result<(), Refusal>, has_failed: bool, is_stored: bool) -> Res
     Ok(())
 }
 
-// The export that the options ask for, a pass for each worker, and one for the end.
+// The export that the options ask for, a pass for each worker and one more, and one for the end.
 fn open_export<B, D, H>(
     alloc: Global,
     device: OpenDevice<D, H>,
@@ -185,7 +189,7 @@ where
     requires vouches { (handle : H) → device.beside ≡ Some handle → (read : SpanRead) → H.vouches handle read → B.vouches read }
     requires geometry { device.keeper.geometry ≡ B.geometry }
     ensures mode { IfOk result (λ made. made.0.mode ≡ options.now.mode) }
-    ensures passes { IfOk result (λ made. vec_len made.1 ≡ options.now.workers) }
+    ensures passes { IfOk result (λ made. vec_len made.1 ≡ options.now.workers + 1) }
     ensures last { IfOk result (λ made. made.2 ≡ new_pass device.keeper.count) }
     ensures back { IfErr result (λ disk. disk ≡ device.keeper.disk) }
 {
@@ -194,7 +198,7 @@ where
         device,
         options.frames,
         options.mode,
-        options.workers as usize,
+        options.workers as usize + 1,
     )
 }
 
@@ -204,6 +208,7 @@ fn serve_clients<B, D, H, R, G>(
     pool: WorkerPool<'_, B>,
     export: &Export<B, D, H>,
     options: ServeOptions,
+    name: OfferedName<'_>,
     watch: G,
 ) -> (Result<(), Refusal>, RetiredPass<B>)
 where
@@ -216,15 +221,23 @@ where
     if let Some(limit) = options.limits.pending() {
         export.store_within(rt, limit);
     }
+    export.limit_loss(rt, options.limits.loss_bytes);
     let server = Server {
         rt,
         pool: &pool,
         export,
         options,
+        name,
         watch,
     };
     let served = run_threads(rt, &server);
-    (served, pool.into_last())
+    // A fault that another handle met is none of the keeper's device.
+    let has_failed = export.stopped(rt);
+    let outcome = match served {
+        Ok(()) if has_failed => Err(Refusal::DeviceFault),
+        served => served,
+    };
+    (outcome, pool.into_last(export))
 }
 
 // Workers beside a flusher, a checkpointer and a thread for each listener, until all have ended.
@@ -260,17 +273,40 @@ where
         return Err(Refusal::NoMemory);
     }
     let registry = server.pool.registry();
-    for at in 0..registry.doors() {
-        if !start(scope, server, Task::Accept(at)) {
-            registry.close(server.rt);
-            return Err(Refusal::NoMemory);
-        }
+    if !start_accepting(scope, server) {
+        registry.close(server.rt);
+        return Err(Refusal::NoMemory);
     }
     if server.watch.announce().is_err() {
         registry.close(server.rt);
         return Err(Refusal::StreamFault);
     }
     Ok(())
+}
+
+// Starts the guards of the device and a thread for each listener; whether all are there.
+fn start_accepting<'s, E, B, D, H, R, G>(
+    scope: &Scope<'s, E>,
+    server: &'s Server<'s, B, D, H, R, G>,
+) -> bool
+where
+    B: ExportName + Send + Sync + 's,
+    D: Disk + Send + 's,
+    H: ReadBeside + Send + Sync + 's,
+    R: Wait + Clock + Sync + 's,
+    G: SyncPoints + Log + Copy + Send + Sync + 's,
+{
+    for at in 0..server.watch.guards() {
+        if !start(scope, server, Task::Guard(at)) {
+            return false;
+        }
+    }
+    for at in 0..server.pool.registry().doors() {
+        if !start(scope, server, Task::Accept(at)) {
+            return false;
+        }
+    }
+    true
 }
 
 // Starts a flusher, a checkpointer and workers; whether a worker is among them. There is none without a flusher, for whose end the

@@ -9,7 +9,7 @@ use disk_model::Disk;
 use export::{Export, ExportFigures, ExportName, ReadBeside, RetiredPass, SyncPoints};
 use front_end::{OnFault, ServeOptions, WhenFull};
 use marks::Pass;
-use negotiation::{End, serve_session};
+use negotiation::{End, OfferedName, serve_session};
 use std::alloc::Global;
 use std::cell::Cell;
 use std::io::ErrorKind;
@@ -50,20 +50,29 @@ pub(crate) struct WorkerPool<'a, B: ExportName> {
     passes: Mutex<Vec<Pass<B>>>,
     // That of the end, which the others join.
     last: Mutex<RetiredPass<B>>,
+    // That of whoever has all stored, which may wait, and so isn't the one that figures are read by.
+    storing: Mutex<Option<RetiredPass<B>>>,
     sessions: Mutex<Sessions>,
     // The passes that weren't retired yet.
     unretired: Mutex<usize>,
 }
 
 impl<'a, B: ExportName> WorkerPool<'a, B> {
-    /// For so many sessions; 0 for no end.
-    pub(crate) fn new(
+    /// For so many sessions; 0 for no end. The last of the passes is that of whoever has all stored.
+    pub(crate) fn new<D: Disk, H: ReadBeside, R: Wait>(
+        rt: &R,
         alloc: Global,
         registry: &'a ClientRegistry,
+        export: &Export<B, D, H>,
         passes: Vec<Pass<B>>,
         last: RetiredPass<B>,
         sessions: u64,
     ) -> WorkerPool<'a, B> {
+        let mut passes = passes;
+        let storing = match passes.pop() {
+            Some(pass) => Some(export.leave(rt, pass)),
+            None => None,
+        };
         let sessions = if sessions == 0 {
             Sessions::Endless
         } else {
@@ -75,6 +84,7 @@ impl<'a, B: ExportName> WorkerPool<'a, B> {
             registry,
             passes: Mutex::new(passes),
             last: Mutex::new(last),
+            storing: Mutex::new(storing),
             sessions: Mutex::new(sessions),
             unretired: Mutex::new(unretired),
         }
@@ -120,8 +130,15 @@ impl<'a, B: ExportName> WorkerPool<'a, B> {
     }
 
     /// The pass of the end.
-    pub(crate) fn into_last(self) -> RetiredPass<B> {
-        self.last.into_inner()
+    pub(crate) fn into_last<D: Disk, H: ReadBeside>(
+        self,
+        export: &Export<B, D, H>,
+    ) -> RetiredPass<B> {
+        let mut last = self.last.into_inner();
+        if let Some(storing) = self.storing.into_inner() {
+            export.join(&mut last, storing);
+        }
+        last
     }
 
     // Whether another session may begin, which does.
@@ -145,6 +162,8 @@ pub(crate) enum Task {
     Work,
     /// Answers those that ask for figures.
     Answer,
+    /// Guards the device, as the guard of this number.
+    Guard(u32),
     // Accepts the clients of the listener at this place.
     Accept(usize),
 }
@@ -153,6 +172,20 @@ impl<'a, B: ExportName, D: Disk, H: ReadBeside, R: Wait + Clock, G> Watched
     for Server<'a, B, D, H, R, G> {
     fn figures(&self) -> ExportFigures {
         self.pool.figures(self.rt, self.export)
+    }
+
+    fn store(&self) -> Option<u64> {
+        let mut storing = self.pool.storing.lock(self.rt);
+        let pass = storing.as_mut()?;
+        self.export.store_accepted(self.rt, pass)
+    }
+
+    fn fail(&self) {
+        self.export.fail(self.rt);
+    }
+
+    fn cut_off(&self) {
+        self.pool.registry.cut_off(self.rt);
     }
 }
 
@@ -163,6 +196,8 @@ pub(crate) struct Server<'a, B: ExportName, D: Disk, H: ReadBeside, R, G> {
     pub pool: &'a WorkerPool<'a, B>,
     pub export: &'a Export<B, D, H>,
     pub options: ServeOptions,
+    // The name that clients ask for the export by.
+    pub name: OfferedName<'a>,
     pub watch: G,
 }
 
@@ -188,6 +223,7 @@ impl<'a, B: ExportName, D: Disk, H: ReadBeside, R: Wait + Clock, G: SyncPoints +
             Task::Checkpoint => self.export.checkpointer(self.rt, &mut watch),
             Task::Work => self.work(),
             Task::Answer => self.watch.answer(self),
+            Task::Guard(at) => self.watch.guard(at, self),
             Task::Accept(at) => self.accept(at),
         }
     }
@@ -290,11 +326,13 @@ impl<'a, B: ExportName, D: Disk, H: ReadBeside, R: Wait + Clock, G: SyncPoints +
             traffic: &told.traffic,
             log: self.watch,
             idle_limit: limits.idle(),
+            loss_age: limits.loss_age(),
             is_replying: &told.is_replying,
             has_agreed: &session.has_agreed,
+            name: self.name,
         };
         let mut output = WatchedOutput {
-            inner: Output(client),
+            inner: Output::new(self.pool.alloc, client),
             is_replying: &told.is_replying,
             points: self.watch,
         };

@@ -9,6 +9,7 @@ use export_model::Mode;
 use front_end::{Limits, OnFault, Refusal, ServeOptions, WhenFull};
 use image_model::Geometry;
 use nbd_wire::CommandFlags;
+use negotiation::OfferedName;
 use server::{Event, Listener, Log, Watched, serve};
 use std::alloc::{AllocError, Global};
 use std::io::{self, ErrorKind};
@@ -76,6 +77,12 @@ impl<'a, R: Clock> Log for Gate<'a, R> {
     }
 
     fn answer<W: Watched>(&self, _watched: &W) {}
+
+    fn guards(&self) -> u32 {
+        0
+    }
+
+    fn guard<W: Watched>(&self, _at: u32, _watched: &W) {}
 
     fn end_answers(&self) {}
 }
@@ -151,6 +158,10 @@ fn run<R: Threads + Wait + Clock + Copy + Send + Sync + Drop + 'static>(
         handshake_seconds: 5,
         idle_seconds: 0,
         flush_millis: 0,
+        loss_bytes: 67_108_864,
+        loss_millis: 0,
+        device_millis: 0,
+        check_millis: 0,
     };
     let options = ServeOptions::new(
         512,
@@ -166,9 +177,10 @@ fn run<R: Threads + Wait + Clock + Copy + Send + Sync + Drop + 'static>(
     // (the server's input doesn't end before it does)
     let (_ending, input) = UnixStream::pair(rt).ok()?;
     let gate = Gate { rt: threads, seen };
+    let name = OfferedName::new(b"")?;
     thread::scope(thread::scope_env(), threads, move |scope| {
         let Ok(server) = scope.spawn(move || serve(
-            threads, alloc, device, listeners, input, options, gate,
+            threads, alloc, device, listeners, input, options, name, gate,
         )) else {
             return None;
         };

@@ -1,10 +1,10 @@
-ghost use Rattle.std.specs.Prelude.{⊤};
+ghost use Rattle.std.specs.Prelude.{⊤, true};
 
 use image_model::Geometry;
 use nbd_wire::{
     Answer, BLOCK_STATUS, Errno, READ, ReadBytes, Reply, Request, RequestHead, SessionFlags,
 };
-use negotiation::{End, Serve, serve_session};
+use negotiation::{End, OfferedName, Serve, serve_session};
 use std::alloc::{AllocError, Global};
 use std::io::{Read, Write};
 use std::test::Fail;
@@ -13,18 +13,31 @@ use stream_fakes::{FakeReader, FakeWriter};
 /// An export of 16 blocks, which answers a READ with bytes 41, BLOCK_STATUS with EINVAL and all else with success. Requests
 /// with even cookies may keep their caller waiting. Of a connection it keeps how many requests it answered.
 #[derive(Drop)]
-pub struct Counted {
+pub struct Counted<'a> {
     alloc: Global,
     geometry: Geometry,
+    name: OfferedName<'a>,
 }
 
-impl Serve<u64> for Counted {
+impl<'a> Serve<u64> for Counted<'a> {
     ghost allows = { λ _ _ _ _ _ _. ⊤ };
 
     ghost extent = { λ export. export.geometry };
 
+    ghost name = { λ export. export.name.bytes.now };
+
+    ghost flushes = { λ _. true };
+
     fn geometry(&self) -> Geometry {
         self.geometry
+    }
+
+    fn name(&self) -> OfferedName<'_> {
+        self.name
+    }
+
+    fn flushes(&self) -> bool {
+        true
     }
 
     fn may_wait(&self, head: &RequestHead) -> bool {
@@ -94,7 +107,12 @@ pub fn serve_over<R: Read, W: Write>(
     output: &mut W,
 ) -> Result<(Result<(), End>, u64), Fail> {
     let geometry = Geometry::new(16, 2_097_152).ok_or("no geometry")?;
-    let export = Counted { alloc, geometry };
+    let name = OfferedName::new(b"").ok_or("no name")?;
+    let export = Counted {
+        alloc,
+        geometry,
+        name,
+    };
     let mut answered = 0;
     let end = serve_session(alloc, input, output, &export, &mut answered);
     Ok((end, answered))

@@ -24,7 +24,7 @@ use Rattle.request_core.specs.Reading.{IsHeldRead, IsKnownBy, IsRead, IsReadOver
 use Rattle.request_core.specs.Serving.{IsWriteServed, ready_for, served_after}
 use Rattle.request_core.specs.declared.serving.Served.{Served}
 use Rattle.shared_cache.specs.Cache.{bytes_seen}
-use Rattle.export_model.specs.Log.{edit_asked, waits_for_store}
+use Rattle.export_model.specs.Log.{edit_asked, flush_waits, waits_for_store}
 use Rattle.export_model.specs.Shown.{bytes_from, cut_to, most_runs, read_status_of, runs_met, shown_by, status_of}
 use Rattle.export_model.specs.declared.action.Action.{Action}
 use Rattle.export_model.specs.declared.action.Action.TheVariants.{End, Serve}
@@ -122,7 +122,7 @@ module _ (opening : ℕ) (image : Image) (trusted : Type 0) (request : Message) 
 
   passed : IsPassed request geometry kept old new result → Tells
   passed (inl stopped) = refused request.head.cookie _ stopped.2
-  passed (inr (inl flush)) = subst (λ (r : Served). ServesImage (apply_all new.history image) request.head r) (sym flush.3) tt
+  passed (inr (inl flush)) = subst (λ (r : Served). ServesImage (apply_all new.history image) request.head r) (sym flush.3) (by_waits (flush_waits kept) request.head.cookie old.mark)
   passed (inr (inr (inl found))) = status found.2 found.3
   passed (inr (inr (inr write))) = written (λ given. ShowsImage given old.cache) write.4
 

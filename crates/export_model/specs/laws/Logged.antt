@@ -117,6 +117,7 @@ module _ (world : World) (event : Event) (allowed : (connection place answer : â
           â†’ k < world.stage.durable
       old (inl confirmed) (inl answered) = durable k below (inl (record {
         confirmed = record { connection = flushed.confirmed.connection; request = flushed.confirmed.request; answer = flushed.confirmed.answer; write = flushed.confirmed.write; answered = confirmed };
+        waits = flushed.waits;
         connection = flushed.connection;
         from = flushed.from;
         request = flushed.request;
@@ -125,7 +126,7 @@ module _ (world : World) (event : Event) (allowed : (connection place answer : â
         later = flushed.later;
         answered = answered;
       }))
-      old (inl confirmed) (inr last) = (allowed flushed.connection flushed.from flushed.answer flushed.request Done last).flushed refl flushed.flush k below
+      old (inl confirmed) (inr last) = (allowed flushed.connection flushed.from flushed.answer flushed.request Done last).flushed refl flushed.flush flushed.waits k below
           (record { connection = flushed.confirmed.connection; request = flushed.confirmed.request; answer = flushed.confirmed.answer; write = flushed.confirmed.write; answered = confirmed })
           flushed.later
       old (inr last) answered = let at = last.at in let before = from_below in let later = flushed.later in absurd (omega arith)

@@ -21,7 +21,7 @@ use Rattle.export_model.specs.Serve.{moved, ordered}
 use Rattle.export_model.specs.World.{World, put}
 use Rattle.export_model.specs.laws.Events.{get_split}
 use Rattle.export_model.specs.laws.Logged.{put_same, put_other}
-use Rattle.export_model.specs.laws.Sound.{AwaitsItself, AwaitsOthers, IsOpen, IsUnpaired, IsRight, IsSound, facts_of, one_event}
+use Rattle.export_model.specs.laws.Sound.{IsDoneAtOnce, AwaitsItself, AwaitsOthers, IsOpen, IsUnpaired, IsRight, IsSound, facts_of, one_event}
 
 -- a place has one request
 pub one_sender : (log : List Event) (place c d : ℕ) (request other : Message) → StandsAt log place (Sent c request) → StandsAt log place (Sent d other) → c ≡ d
@@ -149,7 +149,11 @@ module _ (world : World) (c : ℕ) (request : Message) (added : Change) (sound :
           reached from k answer other (inl below) answered before =
               others.reached from k answer other below (subst (λ (p : ℕ). IsAnswered world.log from p other answer Done) (old_pair k below) answered) before
           reached from k answer other (inr last) answered before = absurd (new_unanswered k from answer other Done last answered)
-  right_ordered d place (Ready Done) unlike is = (is.0, is.1, is.2, is.3, (is.4.0, more_below is.4.0 is.4.1, old_pair is.4.0 is.4.1 ∙ is.4.2))
+  right_ordered d place (Ready Done) unlike is = (is.0, is.1, done_more is.2)
+    where
+      done_more : IsDoneAtOnce (facts_of world) place is.0 → IsDoneAtOnce (facts_of (ordered world c added)) place is.0
+      done_more (inl write) = inl (write.0, write.1, (write.2.0, more_below write.2.0 write.2.1, old_pair write.2.0 write.2.1 ∙ write.2.2))
+      done_more (inr flush) = inr flush
   right_ordered d place (Ready (Refused errno)) unlike is = (is.0, is.1, unpaired_more d place is.0 unlike is.1 is.2)
   right_ordered d place (Ready (Bytes read)) unlike is = is
   right_ordered d place (Ready (States runs)) unlike is = is

@@ -14,7 +14,7 @@ use Rattle.nbd_wire.specs.declared.message.Answer.{Answer}
 use Rattle.nbd_wire.specs.declared.message.Answer.TheVariants.{Done, Refused, Bytes, States}
 use Rattle.export_model.specs.declared.step.Mode.{Mode}
 use Rattle.export_model.specs.Covered.{IsConfirmed, IsCovered}
-use Rattle.export_model.specs.Log.{StandsAt, IsAnswered, IsLegal, is_write, is_flush, waits_for_store}
+use Rattle.export_model.specs.Log.{StandsAt, IsAnswered, IsLegal, is_write, is_flush, flush_waits, waits_for_store}
 use Rattle.export_model.specs.World.{World}
 use Rattle.export_model.specs.laws.Events.{IsLast, answered_split, get_more, get_split}
 
@@ -65,6 +65,12 @@ pub record AwaitsOthers (facts : Facts) (place number : ℕ) (request : Message)
   pub reached : (connection k answer : ℕ) (other : Message) → k < length facts.order
       → IsAnswered facts.log connection (facts.paired k) other answer Done → answer < place → facts.opening + k < number
 
+-- A request is done at once: a write command has its place and needn't be stored first, and no FLUSH waits in the mode.
+abbrev pub IsDoneAtOnce : Facts → ℕ → Message → Type 0
+IsDoneAtOnce facts place request =
+    ((is_write request ≡ true) × (waits_for_store facts.mode request ≡ false) × HasPlace facts.order facts.paired place)
+    ⊎ ((is_write request ≡ false) × (flush_waits facts.mode ≡ false))
+
 -- why the state of a connection, whose last request was sent at the place, is right
 abbrev pub IsRight : Facts → ℕ → ℕ → Connection → Type 0
 IsRight facts connection place Idle = IsAllAnswered facts.log connection
@@ -72,8 +78,7 @@ IsRight facts connection place (Requested request) = IsOpen facts.log connection
 IsRight facts connection place (Waiting number) =
     (request : Message) × IsOpen facts.log connection place request × (AwaitsItself facts place number request ⊎ AwaitsOthers facts place number request)
 IsRight facts connection place (Ready Done) =
-    (request : Message) × IsOpen facts.log connection place request × (is_write request ≡ true)
-    × (waits_for_store facts.mode request ≡ false) × HasPlace facts.order facts.paired place
+    (request : Message) × IsOpen facts.log connection place request × IsDoneAtOnce facts place request
 IsRight facts connection place (Ready (Refused errno)) =
     (request : Message) × IsOpen facts.log connection place request × IsUnpaired facts.order facts.paired place
 IsRight facts connection place (Ready (Bytes read)) = (request : Message) × IsOpen facts.log connection place request
@@ -91,7 +96,7 @@ pub record IsAllowed (world : World) (place : ℕ) (request : Message) (outcome 
   pub refused : (errno : Errno) → outcome ≡ Refused errno → errno ≢ Io → IsUnpaired world.stage.order world.paired place
   pub forced : outcome ≡ Done → is_write request ≡ true → waits_for_store world.stage.setting.mode request ≡ true
       → (k : ℕ) → k < length world.stage.order → world.paired k ≡ place → k < world.stage.durable
-  pub flushed : outcome ≡ Done → is_flush request ≡ true → (k : ℕ) → k < length world.stage.order
+  pub flushed : outcome ≡ Done → is_flush request ≡ true → flush_waits world.stage.setting.mode ≡ true → (k : ℕ) → k < length world.stage.order
       → (confirmed : IsConfirmed world.log (world.paired k)) → confirmed.answer < place → k < world.stage.durable
 
 -- two events at one place are one
@@ -158,7 +163,7 @@ module _ (facts : Facts) (event : Event) where
       by_state Idle all = all_more all
       by_state (Requested request) is = (open_more request is.0, is.1)
       by_state (Waiting number) is = (is.0, open_more is.0 is.1, awaits_more number is.0 is.1 is.2)
-      by_state (Ready Done) is = (is.0, open_more is.0 is.1, is.2, is.3, is.4)
+      by_state (Ready Done) is = (is.0, open_more is.0 is.1, is.2)
       by_state (Ready (Refused errno)) is = (is.0, open_more is.0 is.1, is.2)
       by_state (Ready (Bytes read)) is = (is.0, open_more is.0 is.1)
       by_state (Ready (States runs)) is = (is.0, open_more is.0 is.1)

@@ -22,7 +22,7 @@ use Rattle.export_model.specs.declared.step.Step.TheVariants as steps
 use Rattle.image_model.specs.Bodies.{bodies_bytes, body_limit, longest}
 use Rattle.image_model.specs.Change.{Change}
 use Rattle.image_model.specs.Edit.{becomes}
-use Rattle.export_model.specs.Log.{edit_asked, is_write, is_write_type, is_flush, waits_for_store, IsAnswered}
+use Rattle.export_model.specs.Log.{edit_asked, is_write, is_write_type, is_flush, flush_waits, waits_for_store, IsAnswered}
 use Rattle.export_model.specs.Serve.{Failure, Nothing, OutOfMemory, DeviceFailure, logged, held, moved, ready, ordered, state_after, accepted, write_served, passed, judged, serve, answer, staged, faulted, Misread, image_shown, shown, read_served, status_served, takes_old_bytes}
 use Rattle.export_model.specs.Checkpoint.{can_rotate, can_copy, can_map, can_finish, can_clean, is_full, rotated, finished}
 use Rattle.export_model.specs.Step.{send, sealed_more, seal, put_back, written, stored_more, append, publish, in_time, with_generation, without_memory, clean, after_step}
@@ -139,7 +139,7 @@ module _ (world : World) (c : ℕ) (sound : IsSound world) where
         reached = omega arith;
       }),
     )
-    right_after command false waits write = (request, right.0, write, waits, (length world.stage.order, new_below command, put_same world.paired (length world.stage.order) (world.places c)))
+    right_after command false waits write = (request, right.0, inl (write, waits, (length world.stage.order, new_below command, put_same world.paired (length world.stage.order) (world.places c))))
 
     sound_numbered : (command : Change) → is_write request ≡ true → (image : Image) × (becomes (edit_asked request) image ≡ command) → IsSound (logged (moved (ordered world c command) c (state_after (waits_for_store world.stage.setting.mode request) (last_number world + 1))) (Numbered c (last_number world + 1)))
     sound_numbered command write asked = sound_quiet _ (Numbered c (last_number world + 1)) (quiet_numbered c (last_number world + 1))
@@ -172,6 +172,12 @@ module _ (world : World) (c : ℕ) (sound : IsSound world) where
         no_write (inl write) = absurd (flush_no_write request flush write)
         no_write (inr is) = is
 
+    -- a FLUSH waits for all before it, or is done at once
+    right_flushed : (waits : Bool) → flush_waits world.stage.setting.mode ≡ waits → is_flush request ≡ true
+        → IsRight (facts_of world) c (world.places c) (state_after waits (last_number world))
+    right_flushed true waits flush = (request, right.0, inr (others_before flush))
+    right_flushed false waits flush = (request, right.0, inr ((others_before flush).no_write, waits))
+
     right_shown : (image : Image) (head : RequestHead) → IsRight (facts_of world) c (world.places c) (Ready (shown_by image head))
     right_shown image head = of_either (λ (outcome : Answer). IsRight (facts_of world) c (world.places c) (Ready outcome)) (head.kind == 0) _ _ (λ read. (request, right.0)) (λ status. (request, right.0))
 
@@ -202,8 +208,8 @@ module _ (world : World) (c : ℕ) (sound : IsSound world) where
     sound_passed failure writes = of_either IsSound world.stage.stopped _ _
         (λ stopped. sound_ready Io)
         (λ works. of_either IsSound (is_flush request) _ _
-        (λ flush. sound_quiet (moved world c (Waiting (last_number world))) Took quiet_took
-        (sound_moved world c (Waiting (last_number world)) sound (request, right.0, inr (others_before flush))))
+        (λ flush. let state = state_after (flush_waits world.stage.setting.mode) (last_number world) in
+        sound_quiet (moved world c state) Took quiet_took (sound_moved world c state sound (right_flushed (flush_waits world.stage.setting.mode) refl flush)))
         (λ other. of_either IsSound (request.head.kind == 0) _ _ (λ read. sound_read failure)
         (λ no_read. of_either IsSound (request.head.kind == 7) _ _ (λ status. sound_status failure)
         (λ no_status. sound_write failure (image_shown failure world.stage) (writes other no_read no_status)))))

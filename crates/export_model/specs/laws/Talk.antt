@@ -11,12 +11,12 @@ use Rattle.export_model.specs.declared.connection.Connection.TheVariants.{Idle, 
 use Rattle.export_model.specs.declared.event.Event.TheVariants.{Sent, Answered}
 use Rattle.nbd_wire.specs.declared.message.Answer.{Answer}
 use Rattle.nbd_wire.specs.declared.message.Answer.TheVariants.{Done, Refused}
-use Rattle.export_model.specs.Log.{StandsAt, is_write, is_write_type, is_flush, waits_for_store}
+use Rattle.export_model.specs.Log.{StandsAt, is_write, is_write_type, is_flush, flush_waits, waits_for_store}
 use Rattle.export_model.specs.Serve.{logged, moved, answered}
 use Rattle.export_model.specs.World.{World, put}
 use Rattle.export_model.specs.laws.Events.{IsLast, get_split, get_last}
 use Rattle.export_model.specs.laws.Logged.{put_same, put_other, legal_more, durable_more, some_at}
-use Rattle.export_model.specs.laws.Sound.{AwaitsItself, AwaitsOthers, IsOpen, IsUnpaired, IsAllAnswered, IsAllowed, IsRight, IsSound, facts_of, one_event, right_more}
+use Rattle.export_model.specs.laws.Sound.{AwaitsItself, AwaitsOthers, IsOpen, IsUnpaired, IsAllAnswered, IsAllowed, IsRight, IsDoneAtOnce, IsSound, facts_of, one_event, right_more}
 
 -- the world in which a connection has sent a request
 abbrev pub sent_by : World → ℕ → Message → World
@@ -144,12 +144,21 @@ flush_no_write request flush write =
 
 -- the answers that the states of a connection lead to are ones that its request may have
 pub allowed_ready_done : (world : World) (c : ℕ) → (right : IsRight (facts_of world) c (world.places c) (Ready Done)) → IsAllowed world (world.places c) right.0 Done
-allowed_ready_done world c right = record {
-  done = λ is write. right.4;
-  refused = λ errno is unlike. absurd (cc);
-  forced = λ is write waits k below own. absurd (both_ways (waits_for_store world.stage.setting.mode right.0) right.3 waits);
-  flushed = λ is flush k below confirmed before. absurd (flush_no_write right.0 flush right.2);
-}
+allowed_ready_done world c right = by_case right.2
+  where
+    by_case : IsDoneAtOnce (facts_of world) (world.places c) right.0 → IsAllowed world (world.places c) right.0 Done
+    by_case (inl is) = record {
+      done = λ done write. is.2;
+      refused = λ errno done unlike. absurd (cc);
+      forced = λ done write waits k below own. absurd (both_ways (waits_for_store world.stage.setting.mode right.0) is.1 waits);
+      flushed = λ done flush waits k below confirmed before. absurd (flush_no_write right.0 flush is.0);
+    }
+    by_case (inr is) = record {
+      done = λ done write. absurd (both_ways (is_write right.0) is.0 write);
+      refused = λ errno done unlike. absurd (cc);
+      forced = λ done write waits k below own. absurd (both_ways (is_write right.0) is.0 write);
+      flushed = λ done flush waits k below confirmed before. absurd (both_ways (flush_waits world.stage.setting.mode) is.1 waits);
+    }
 
 pub allowed_refused : (world : World) (c : ℕ) (request : Message) (errno : Errno) → IsUnpaired world.stage.order world.paired (world.places c)
     → IsAllowed world (world.places c) request (Refused errno)
@@ -157,7 +166,7 @@ allowed_refused world c request errno unpaired = record {
   done = λ is write. absurd (cc);
   refused = λ other is unlike. unpaired;
   forced = λ is write waits k below own. absurd (cc);
-  flushed = λ is flush k below confirmed before. absurd (cc);
+  flushed = λ is flush waits k below confirmed before. absurd (cc);
 }
 
 pub allowed_fault : (world : World) (c : ℕ) (request : Message) → IsAllowed world (world.places c) request (Refused Io)
@@ -165,7 +174,7 @@ allowed_fault world c request = record {
   done = λ is write. absurd (cc);
   refused = λ other is unlike. let same : Io ≡ other = cc in absurd (unlike (sym same));
   forced = λ is write waits k below own. absurd (cc);
-  flushed = λ is flush k below confirmed before. absurd (cc);
+  flushed = λ is flush waits k below confirmed before. absurd (cc);
 }
 
 -- an answer that is neither Ok nor an error
@@ -175,7 +184,7 @@ allowed_other world c request outcome not_done not_refused = record {
   done = λ is write. absurd (not_done is);
   refused = λ errno is unlike. absurd (not_refused errno is);
   forced = λ is write waits k below own. absurd (not_done is);
-  flushed = λ is flush k below confirmed before. absurd (not_done is);
+  flushed = λ is flush waits k below confirmed before. absurd (not_done is);
 }
 
 pub allowed_waiting : (world : World) (c number : ℕ) (request : Message) → IsSound world → number ≤ world.stage.setting.opening + world.stage.durable
@@ -185,7 +194,7 @@ allowed_waiting world c number request sound reached (inl itself) = record {
   done = λ is write. (itself.k, itself.below, itself.own);
   refused = λ errno is unlike. absurd (cc);
   forced = λ is write waits k below own. forced k below own;
-  flushed = λ is flush k below confirmed before. absurd (flush_no_write request flush itself.write);
+  flushed = λ is flush waits k below confirmed before. absurd (flush_no_write request flush itself.write);
 }
   where
     forced : (k : ℕ) → k < length world.stage.order → world.paired k ≡ world.places c → k < world.stage.durable
@@ -202,6 +211,6 @@ allowed_waiting world c number request sound reached (inr others) = record {
   done = λ is write. absurd (both_ways (is_write request) others.no_write write);
   refused = λ errno is unlike. absurd (cc);
   forced = λ is write waits k below own. absurd (both_ways (is_write request) others.no_write write);
-  flushed = λ is flush k below confirmed before. let number_is = others.reached confirmed.connection k confirmed.answer confirmed.request below confirmed.answered before in
+  flushed = λ is flush waits k below confirmed before. let number_is = others.reached confirmed.connection k confirmed.answer confirmed.request below confirmed.answered before in
       omega (arith, reached, number_is);
 }

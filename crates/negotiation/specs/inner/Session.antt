@@ -4,7 +4,7 @@ use Rattle.std.specs.Io.KnownBytes.{Consumes, IsAtEnd}
 use Rattle.nbd_wire.specs.Request.{Message}
 use Rattle.option_wire.specs.Handshake.{greeting_bytes, client_flags_bytes}
 use Rattle.option_wire.specs.Head.{option_head}
-use Rattle.negotiation.specs.Answered.{Answered, answer_bytes}
+use Rattle.negotiation.specs.Answered.{Offer, Answered, answer_bytes}
 use Rattle.negotiation.specs.declared.answer.Agreed.{Agreed}
 use Rattle.negotiation.specs.declared.end.End.TheVariants.{NoMemory}
 use Rattle.negotiation.specs.declared.stage.Talk.{Talk}
@@ -38,16 +38,16 @@ standing_behind behind.End = ended
 standing_behind behind.Fault = broken
 
 -- What a text that begins with an option comes to: it is whole, and answered, or this is left of it.
-abbrev pub Takes : Agreed → ℕ → List ℕ → List Turn → Agreed → Standing → Type 0
-Takes agreed size text [] new standing = (new ≡ agreed) × Leaves standing text
-Takes agreed size text (turn ∷ []) new standing =
-    IsTurn agreed size text turn × (new ≡ turn.answer.agreed) × (standing ≡ standing_behind turn.answer.next)
-Takes agreed size text (turn ∷ other ∷ turns) new standing = ⊥
+abbrev pub Takes : Agreed → Offer → List ℕ → List Turn → Agreed → Standing → Type 0
+Takes agreed offer text [] new standing = (new ≡ agreed) × Leaves standing text
+Takes agreed offer text (turn ∷ []) new standing =
+    IsTurn agreed offer text turn × (new ≡ turn.answer.agreed) × (standing ≡ standing_behind turn.answer.next)
+Takes agreed offer text (turn ∷ other ∷ turns) new standing = ⊥
 
 -- any text of this kind was read, and the answer to the option, if it is whole, was written
-pub record Step (agreed : Agreed) (size : ℕ) (IsText : List ℕ → Type 0) (before after : List ℕ) (talk : Talk) : Type 0 where
+pub record Step (agreed : Agreed) (offer : Offer) (IsText : List ℕ → Type 0) (before after : List ℕ) (talk : Talk) : Type 0 where
   pub turns : List Turn
-  pub takes : (text : List ℕ) → IsText text → Takes agreed size text turns talk.agreed (standing_of talk.stage)
+  pub takes : (text : List ℕ) → IsText text → Takes agreed offer text turns talk.agreed (standing_of talk.stage)
   pub written : after ≡ before ++ answers_text turns
 
 -- the first bytes of an option whose data come next
@@ -67,9 +67,9 @@ TakesFlags agreed text new standing =
     ⊎ ((client : ClientFlags) × IsAccepted client × (text ≡ client_flags_bytes client) × (new ≡ agreed_with client agreed)
     × (standing ≡ in_head []))
 
--- a session over an export of so many bytes
-abbrev pub state_of : ℕ → Talk → SessionState
-state_of size talk = record { size = size; agreed = talk.agreed; standing = standing_of talk.stage }
+-- a session that offers this export
+abbrev pub state_of : Offer → Talk → SessionState
+state_of offer talk = record { offer = offer; agreed = talk.agreed; standing = standing_of talk.stage }
 
 -- an option was answered
 pub record Settles (code : ℕ) (answer : Answered) (before after : List ℕ) (talk : Talk) : Type 0 where
@@ -100,8 +100,8 @@ pub record Hands (old : Standing) (piece : List ℕ) (requests : List Message) (
   pub parts : piece ≡ first ++ rest
   pub said : IsSaid between
   pub behind : IsBehind old → IsBehind between
-  pub hears : (size : ℕ) (agreed : Agreed) → HearsOn (record { size = size; agreed = agreed; standing = old }) first [] requests
-      (record { size = size; agreed = agreed; standing = between })
+  pub hears : (offer : Offer) (agreed : Agreed) → HearsOn (record { offer = offer; agreed = agreed; standing = old }) first [] requests
+      (record { offer = offer; agreed = agreed; standing = between })
   pub whole : ((end_of new ≡ Some NoMemory) × ((requests ≡ []) ⊎ IsBehind between)) ⊎ ((rest ≡ []) × (new ≡ between))
 
 -- so many bytes were read off a stream, as a piece behind the handshake that ends no request

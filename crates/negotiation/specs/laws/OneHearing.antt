@@ -15,7 +15,7 @@ use Rattle.option_wire.specs.declared.handshake.ClientFlags.{ClientFlags}
 use Rattle.option_wire.specs.laws.Asked.{one_option_lem}
 use Rattle.option_wire.specs.laws.Heads.{length-option_head, one_head, take-option_head}
 use Rattle.option_wire.specs.laws.Texts.{number_32, same_front}
-use Rattle.negotiation.specs.Answered.{Answered, IsAnswered, answer_of}
+use Rattle.negotiation.specs.Answered.{Offer, Answered, IsAnswered, answer_of}
 use Rattle.negotiation.specs.declared.answer.Next.{Next}
 use Rattle.negotiation.specs.declared.answer.Next.TheVariants as behind
 use Rattle.negotiation.specs.Dialog.{Asks, Follows, IsAccepted, IsFlagless, IsNegotiated, IsOver, IsTold, IsTurn, Leaves, LeavesFlags, Negotiates, OneHearing, Outcome, Standing, Turn, agreed_with, before_disc, broken, ended, exhausted, in_discard, in_flags, in_head, in_option, in_requests, is_disc, kept_limit, most_bytes, plain, read_limit, silent}
@@ -89,12 +89,12 @@ turn_parts content rest text stream code whole same =
     same ∙ ap (λ (t : List ℕ). t ++ rest) whole ∙ append_assoc (option_head code (length content)) content rest
 
 -- no option stands where none is whole
-front_is_no_turn : (agreed : Agreed) (size : ℕ) (stream text rest : List ℕ) (turn : Turn) (standing : Standing) → Front stream standing → IsTurn agreed size text turn → stream ≡ text ++ rest → ⊥
-front_is_no_turn agreed size stream text rest turn standing (short p _) is same =
+front_is_no_turn : (agreed : Agreed) (offer : Offer) (stream text rest : List ℕ) (turn : Turn) (standing : Standing) → Front stream standing → IsTurn agreed offer text turn → stream ≡ text ++ rest → ⊥
+front_is_no_turn agreed offer stream text rest turn standing (short p _) is same =
     omega (arith, p, head_is_long stream turn.code (length is.content) (is.content ++ rest) (turn_parts is.content rest text stream turn.code is.whole same))
-front_is_no_turn agreed size stream text rest turn standing (foreign _ m _) is same =
+front_is_no_turn agreed offer stream text rest turn standing (foreign _ m _) is same =
     m (head_has_magic stream turn.code (length is.content) (is.content ++ rest) (turn_parts is.content rest text stream turn.code is.whole same))
-front_is_no_turn agreed size stream text rest turn standing (begun code count sent fits count_fits begins more _) is same =
+front_is_no_turn agreed offer stream text rest turn standing (begun code count sent fits count_fits begins more _) is same =
     let all = one_head code turn.code count (length is.content) sent (is.content ++ rest) fits is.code_fits count_fits
     (omega (arith, is.bound, (most_kept turn.code).1)) (sym begins ∙ turn_parts is.content rest text stream turn.code is.whole same) in
     elim more [
@@ -102,28 +102,28 @@ front_is_no_turn agreed size stream text rest turn standing (begun code count se
       | inr less ↦ omega (arith, less, all.1, ap length all.2, length-append is.content rest)
     ]
 
-one_answer : (agreed : Agreed) (size code : ℕ) (content : List ℕ) (answer other : Answered) → IsAnswered agreed size code content answer → IsAnswered agreed size code content other → answer ≡ other
-one_answer agreed size code content answer other (inl (option, is, same)) (inl (option', is', same')) =
-    same ∙ ap (answer_of agreed size) (one_option_lem code content option option' is is') ∙ sym same'
-one_answer agreed size code content answer other (inl (option, is, same)) (inr (none, same')) = absurd (none option is)
-one_answer agreed size code content answer other (inr (none, same)) (inl (option, is, same')) = absurd (none option is)
-one_answer agreed size code content answer other (inr (none, same)) (inr (none', same')) = same ∙ sym same'
+one_answer : (agreed : Agreed) (offer : Offer) (code : ℕ) (content : List ℕ) (answer other : Answered) → IsAnswered agreed offer code content answer → IsAnswered agreed offer code content other → answer ≡ other
+one_answer agreed offer code content answer other (inl (option, is, same)) (inl (option', is', same')) =
+    same ∙ ap (answer_of agreed offer) (one_option_lem code content option option' is is') ∙ sym same'
+one_answer agreed offer code content answer other (inl (option, is, same)) (inr (none, same')) = absurd (none option is)
+one_answer agreed offer code content answer other (inr (none, same)) (inl (option, is, same')) = absurd (none option is)
+one_answer agreed offer code content answer other (inr (none, same)) (inr (none', same')) = same ∙ sym same'
 
-one_telling : (agreed : Agreed) (size code : ℕ) (content : List ℕ) (answer other : Answered) → IsTold agreed size code content answer → IsTold agreed size code content other → answer ≡ other
-one_telling agreed size code content answer other (inl p) (inl q) = one_answer agreed size code content answer other p.1 q.1
-one_telling agreed size code content answer other (inl p) (inr q) = absurd (omega (arith, p.0, q.0))
-one_telling agreed size code content answer other (inr p) (inl q) = absurd (omega (arith, p.0, q.0))
-one_telling agreed size code content answer other (inr p) (inr q) = p.1 ∙ sym q.1
+one_telling : (agreed : Agreed) (offer : Offer) (code : ℕ) (content : List ℕ) (answer other : Answered) → IsTold agreed offer code content answer → IsTold agreed offer code content other → answer ≡ other
+one_telling agreed offer code content answer other (inl p) (inl q) = one_answer agreed offer code content answer other p.1 q.1
+one_telling agreed offer code content answer other (inl p) (inr q) = absurd (omega (arith, p.0, q.0))
+one_telling agreed offer code content answer other (inr p) (inl q) = absurd (omega (arith, p.0, q.0))
+one_telling agreed offer code content answer other (inr p) (inr q) = p.1 ∙ sym q.1
 
-one_turn : (agreed : Agreed) (size : ℕ) (stream text other_text rest other_rest : List ℕ) (turn other : Turn) → IsTurn agreed size text turn → IsTurn agreed size other_text other → stream ≡ text ++ rest → stream ≡ other_text ++ other_rest
+one_turn : (agreed : Agreed) (offer : Offer) (stream text other_text rest other_rest : List ℕ) (turn other : Turn) → IsTurn agreed offer text turn → IsTurn agreed offer other_text other → stream ≡ text ++ rest → stream ≡ other_text ++ other_rest
     → (turn ≡ other) × (rest ≡ other_rest)
-one_turn agreed size stream text other_text rest other_rest turn other p q same other_same =
+one_turn agreed offer stream text other_text rest other_rest turn other p q same other_same =
     let all = one_head turn.code other.code (length p.content) (length q.content) (p.content ++ rest) (q.content ++ other_rest) p.code_fits q.code_fits
     (omega (arith, p.bound, (most_kept turn.code).1)) (omega (arith, q.bound, (most_kept other.code).1))
     (sym (turn_parts p.content rest text stream turn.code p.whole same) ∙ turn_parts q.content other_rest other_text stream other.code q.whole other_same) in
     let both = same_front p.content q.content rest other_rest all.1 all.2 in
-    let told = subst (λ (c : List ℕ). IsTold agreed size other.code c turn.answer) both.0 (subst (λ (n : ℕ). IsTold agreed size n p.content turn.answer) all.0 p.told) in
-    let answers = one_telling agreed size other.code q.content turn.answer other.answer told q.told in
+    let told = subst (λ (c : List ℕ). IsTold agreed offer other.code c turn.answer) both.0 (subst (λ (n : ℕ). IsTold agreed offer n p.content turn.answer) all.0 p.told) in
+    let answers = one_telling agreed offer other.code q.content turn.answer other.answer told q.told in
     (λ i. record { code = all.0 i; answer = answers i }, both.1)
 
 -- ---- requests
@@ -204,20 +204,20 @@ one_follow behind.Transmission agreed rest turns others outcome other P Q on p q
 one_follow behind.End agreed rest turns others outcome other P Q on p q = one_over agreed turns others outcome other ended p q
 one_follow behind.Fault agreed rest turns others outcome other P Q on p q = one_over agreed turns others outcome other broken p q
 
-one_negotiation : (size : ℕ) (agreed : Agreed) (stream : List ℕ) (turns others : List Turn) (outcome other : Outcome) → Negotiates size agreed stream turns outcome → Negotiates size agreed stream others other → IsOne turns others outcome other
-one_negotiation size agreed stream [] [] outcome other p q =
+one_negotiation : (offer : Offer) (agreed : Agreed) (stream : List ℕ) (turns others : List Turn) (outcome other : Outcome) → Negotiates offer agreed stream turns outcome → Negotiates offer agreed stream others other → IsOne turns others outcome other
+one_negotiation offer agreed stream [] [] outcome other p q =
     let requests = p.0 ∙ sym q.0 in
     let agreed = p.1 ∙ sym q.1 in
     let standings = one_front stream outcome.standing other.standing (front_of stream outcome.standing p.2) (front_of stream other.standing q.2) in
     (refl, λ i. record { requests = requests i; agreed = agreed i; standing = standings i })
-one_negotiation size agreed stream [] (turn ∷ others) outcome other p q = absurd (front_is_no_turn agreed size stream q.0 q.1 turn outcome.standing (front_of stream outcome.standing p.2) q.2 q.3)
-one_negotiation size agreed stream (turn ∷ turns) [] outcome other p q = absurd (front_is_no_turn agreed size stream p.0 p.1 turn other.standing (front_of stream other.standing q.2) p.2 p.3)
-one_negotiation size agreed stream (turn ∷ turns) (turn' ∷ others) outcome other p q =
-    let first = one_turn agreed size stream p.0 q.0 p.1 q.1 turn turn' p.2 q.2 p.3 q.3 in
-    let follows = subst (λ (t : Turn). Follows t.answer.next t.answer.agreed p.1 others other (Negotiates size t.answer.agreed p.1 others other)) (sym first.0)
-    (subst (λ (r : List ℕ). Follows turn'.answer.next turn'.answer.agreed r others other (Negotiates size turn'.answer.agreed r others other)) (sym first.1) q.4) in
-    let more = one_follow turn.answer.next turn.answer.agreed p.1 turns others outcome other (Negotiates size turn.answer.agreed p.1 turns outcome) (Negotiates size turn.answer.agreed p.1 others other)
-    (one_negotiation size turn.answer.agreed p.1 turns others outcome other) p.4 follows in
+one_negotiation offer agreed stream [] (turn ∷ others) outcome other p q = absurd (front_is_no_turn agreed offer stream q.0 q.1 turn outcome.standing (front_of stream outcome.standing p.2) q.2 q.3)
+one_negotiation offer agreed stream (turn ∷ turns) [] outcome other p q = absurd (front_is_no_turn agreed offer stream p.0 p.1 turn other.standing (front_of stream other.standing q.2) p.2 p.3)
+one_negotiation offer agreed stream (turn ∷ turns) (turn' ∷ others) outcome other p q =
+    let first = one_turn agreed offer stream p.0 q.0 p.1 q.1 turn turn' p.2 q.2 p.3 q.3 in
+    let follows = subst (λ (t : Turn). Follows t.answer.next t.answer.agreed p.1 others other (Negotiates offer t.answer.agreed p.1 others other)) (sym first.0)
+    (subst (λ (r : List ℕ). Follows turn'.answer.next turn'.answer.agreed r others other (Negotiates offer turn'.answer.agreed r others other)) (sym first.1) q.4) in
+    let more = one_follow turn.answer.next turn.answer.agreed p.1 turns others outcome other (Negotiates offer turn.answer.agreed p.1 turns outcome) (Negotiates offer turn.answer.agreed p.1 others other)
+    (one_negotiation offer turn.answer.agreed p.1 turns others outcome other) p.4 follows in
     ((λ i. first.0 i ∷ more.0 i), more.1)
 
 -- ---- the client's flags
@@ -234,8 +234,8 @@ flags_are_long : (stream rest : List ℕ) (client : ClientFlags) → stream ≡ 
 flags_are_long stream rest client same = omega (arith, ap length same, length-append (client_flags_bytes client) rest)
 
 -- flags with which a session goes on are no others
-accepted_only : (stream : List ℕ) (turns : List Turn) (outcome : Outcome) (size : ℕ) (others : List Turn) (other : Outcome) → IsFlagless stream turns outcome → IsNegotiated size stream others other → ⊥
-accepted_only stream turns outcome size others other p q =
+accepted_only : (stream : List ℕ) (turns : List Turn) (outcome : Outcome) (offer : Offer) (others : List Turn) (other : Outcome) → IsFlagless stream turns outcome → IsNegotiated offer stream others other → ⊥
+accepted_only stream turns outcome offer others other p q =
     elim outcome.standing as (λ s. LeavesFlags s stream → ⊥) [
       | silent ↦ λ l. omega (arith, ap length l, flags_are_long stream q.rest q.client q.whole)
       | in_flags bytes ↦ λ l. omega (arith, l.0, ap length l.1, flags_are_long stream q.rest q.client q.whole)
@@ -281,17 +281,17 @@ same_agreement : (client other : ClientFlags) (agreed : Agreed) → client_bits 
 same_agreement client other agreed same = λ i. record { flags = agreed.flags; no_zeroes = not (bit_and (same i) 2 == 0) }
 
 pub one_hearing_lem : OneHearing
-one_hearing_lem size stream turns others outcome other (inl p) (inl q) = (
+one_hearing_lem offer stream turns others outcome other (inl p) (inl q) = (
   p.none ∙ sym q.none,
   p.requests ∙ sym q.requests,
   p.agreed ∙ sym q.agreed,
   λ some. one_flagless stream outcome.standing other.standing some (flagless_of stream outcome.standing p.leaves) (flagless_of stream other.standing q.leaves),
 )
-one_hearing_lem size stream turns others outcome other (inl p) (inr q) = absurd (accepted_only stream turns outcome size others other p q)
-one_hearing_lem size stream turns others outcome other (inr p) (inl q) = absurd (accepted_only stream others other size turns outcome q p)
-one_hearing_lem size stream turns others outcome other (inr p) (inr q) =
+one_hearing_lem offer stream turns others outcome other (inl p) (inr q) = absurd (accepted_only stream turns outcome offer others other p q)
+one_hearing_lem offer stream turns others outcome other (inr p) (inl q) = absurd (accepted_only stream others other offer turns outcome q p)
+one_hearing_lem offer stream turns others outcome other (inr p) (inr q) =
     let bits = number_32 (client_bits p.client) (client_bits q.client) p.rest q.rest (accepted_fits p.client p.accepted) (accepted_fits q.client q.accepted) (sym p.whole ∙ q.whole) in
     let agreed = agreed_with p.client plain in
-    let same = subst (λ (a : Agreed). Negotiates size a q.rest others other) (sym (same_agreement p.client q.client plain bits.0)) q.negotiates in
-    let one = one_negotiation size agreed p.rest turns others outcome other p.negotiates (subst (λ (r : List ℕ). Negotiates size agreed r others other) (sym bits.1) same) in
+    let same = subst (λ (a : Agreed). Negotiates offer a q.rest others other) (sym (same_agreement p.client q.client plain bits.0)) q.negotiates in
+    let one = one_negotiation offer agreed p.rest turns others outcome other p.negotiates (subst (λ (r : List ℕ). Negotiates offer agreed r others other) (sym bits.1) same) in
     (one.0, ap (λ (o : Outcome). o.requests) one.1, ap (λ (o : Outcome). o.agreed) one.1, λ some. ap (λ (o : Outcome). o.standing) one.1)

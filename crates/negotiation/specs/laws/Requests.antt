@@ -85,7 +85,7 @@ hands_none (reading old) (reading new) piece requests feeds none = record {
   parts = sym (append-nil piece);
   said = tt;
   behind = λ b. tt;
-  hears = λ size flags. hears_on size piece [] requests flags flags (in_requests (reading old)) (in_requests (reading new))
+  hears = λ offer flags. hears_on offer piece [] requests flags flags (in_requests (reading old)) (in_requests (reading new))
       (record { leaves = λ text p. absurd p; asks = λ text asked p. (refl, refl, (feeds text asked p.0, any_behind asked requests false p.1 none)); ends = λ e. cc; breaks = λ e. cc })
       (λ text p e. absurd p);
   whole = inr (refl, refl);
@@ -97,7 +97,7 @@ hands_none (reading old) starved piece requests feeds none = record {
   parts = feeds.3;
   said = tt;
   behind = λ b. tt;
-  hears = λ size flags. hears_on size feeds.0 [] requests flags flags (in_requests (reading old)) (in_requests (reading feeds.2))
+  hears = λ offer flags. hears_on offer feeds.0 [] requests flags flags (in_requests (reading old)) (in_requests (reading feeds.2))
       (record { leaves = λ text p. absurd p; asks = λ text asked p. (refl, refl, (feeds.4 text asked p.0, any_behind asked requests false p.1 none)); ends = λ e. cc; breaks = λ e. cc })
       (λ text p e. absurd p);
   whole = inl (refl, inr tt);
@@ -109,7 +109,7 @@ hands_none starved new piece requests feeds none = record {
   parts = sym (append-nil piece);
   said = tt;
   behind = λ b. tt;
-  hears = λ size flags. hears_on size piece [] requests flags flags (in_requests starved) (in_requests new)
+  hears = λ offer flags. hears_on offer piece [] requests flags flags (in_requests starved) (in_requests new)
       (record { leaves = λ text p. absurd p; asks = λ text asked p. absurd p; ends = λ e. cc; breaks = λ e. cc })
       (λ text p e. absurd p);
   whole = inr (refl, refl);
@@ -135,7 +135,7 @@ hands_disc (reading old) new piece requests feeds some = record {
   parts = sym (append-nil piece);
   said = tt;
   behind = λ b. tt;
-  hears = λ size flags. hears_on size piece [] (before_disc requests) flags flags (in_requests (reading old)) ended
+  hears = λ offer flags. hears_on offer piece [] (before_disc requests) flags flags (in_requests (reading old)) ended
       (record {
         leaves = λ text p. absurd p;
         asks = λ text asked p. (

@@ -91,7 +91,7 @@ returns g c = record {
         synced = synced;
         seen = seen;
         until_then = c.sync.ensures.any_moment honest;
-        from_then = weakens only_read.any_moment (λ content left. inl (leaves_seen first content synced left ∙ seen));
+        from_then = weakens only_read.any_moment (λ content left. leaves_seen first content synced left ∙ seen);
       });
   read = λ honest. c.read_parts.ensures.read (c.sync.ensures.honest.1 honest) (c.in_ok-sync.ensures.synced honest).synced;
   any_moment = λ honest.

@@ -3,8 +3,8 @@ use Rattle.export.proofs.Stored.{flushed, forced}
 use Rattle.export.proofs.laws.answer_law.Goals as goal
 
 pub returns-clause-flushed : goal.returns-clause-flushed
-returns-clause-flushed g c = λ request kept old new answer history least content is done flush grows durable stands.
-    flushed g.B.BoardName.opening g.B.ImageName.image old new history least content (is.covered done flush) grows durable stands
+returns-clause-flushed g c = λ request kept old new answer history least content is done flush waits grows durable stands.
+    flushed g.B.BoardName.opening g.B.ImageName.image old new history least content (is.covered done flush waits) grows durable stands
 
 pub returns-clause-forced : goal.returns-clause-forced
 returns-clause-forced g c = λ request kept old new answer history least content is done write waits grows durable stands.

@@ -17,22 +17,22 @@ pub returns-clause-stored : goal.returns-clause-stored
 returns-clause-stored g c honest stable =
     let before = g.D.Disk.state c.args.disk.now in
     let mid = g.D.Disk.state c.write_synced.new.disk in
-    let after = g.D.Disk.state c.write_synced-2.new.disk in
+    let after = g.D.Disk.state c.open_gate.new.disk in
     let first = c.write_synced.ensures in
-    let second = c.write_synced-2.ensures in
+    let second = c.open_gate.ensures in
     let mid_honest = first.honest.1 honest in
     let sound = g.met.D.Disk.sound c.args.disk.now honest in
     let mid_sound = subst (λ e. IsSound e mid) first.extent (g.met.D.Disk.sound c.write_synced.new.disk mid_honest) in
-    let at_end = subst (λ e. IsSound e after) first.extent (subst (λ e. IsSound e after) second.extent (g.met.D.Disk.sound c.write_synced-2.new.disk (second.honest.1 mid_honest))) in
+    let at_end = subst (λ e. IsSound e after) first.extent (subst (λ e. IsSound e after) second.extent (g.met.D.Disk.sound c.open_gate.new.disk (second.honest.1 mid_honest))) in
     let body : IsStored before (c.args.gate + 1) c.args.body.now mid = search rules in
-    let gate : OnOk c.write_synced-2.result (IsStored mid c.args.gate (1 ∷ []) after) = search rules in
-    on_ok_weaker c.write_synced-2.result (opened _ _ _ _ sound stable _ body mid_sound _ at_end) gate
+    let gate : OnOk c.open_gate.result (IsStored mid c.args.gate (1 ∷ []) after) = search rules in
+    on_ok_weaker c.open_gate.result (opened _ _ _ _ sound stable _ body mid_sound _ at_end) gate
 
 pub returns-clause-any_moment : goal.returns-clause-any_moment
 returns-clause-any_moment g c honest stable =
     let before = g.D.Disk.state c.args.disk.now in
     let mid = g.D.Disk.state c.write_synced.new.disk in
-    let after = g.D.Disk.state c.write_synced-2.new.disk in
+    let after = g.D.Disk.state c.open_gate.new.disk in
     let first = c.write_synced.ensures in
     let mid_honest = first.honest.1 honest in
     let sound = g.met.D.Disk.sound c.args.disk.now honest in

@@ -2,7 +2,7 @@ use Rattle.std.proofs.Common.{inl, Err, refl, sym, ap, subst, ◌∙◌}
 use Rattle.checkpoint.specs.Opening.{IsOpening}
 use Rattle.checkpoint.specs.declared.fault.KeeperFault.TheVariants as fault
 use Rattle.nbd_wire.specs.laws.Bytes.{keeps_same}
-use Rattle.nbdj_pipe.proofs.Lives.{starved_opening}
+use Rattle.checkpoint.specs.laws.FirstSync.{starved}
 use Rattle.nbdj_pipe.proofs.session.pipe.Goals as goal
 
 pub returns-in-Ok-new-clause-dialog : goal.returns-in-Ok-new-clause-dialog
@@ -26,7 +26,7 @@ returns-in-Err-new-clause-dialog g c = inl (record {
       let (content, opening) = c.in-Ok.ensures.found is in (
         content,
         subst (λ left. IsOpening (g.D.Disk.state c.args.disk) g.D.Disk.state (Err (fault.NoMemory, left)) content) (sym c.into_disk.ensures)
-            (starved_opening g.D.Disk.state c.in-Ok.keeper (g.D.Disk.state c.args.disk) content opening),
+            (starved (g.D.Disk.state c.args.disk) g.D.Disk.state content c.in-Ok.keeper opening),
       );
 })
 

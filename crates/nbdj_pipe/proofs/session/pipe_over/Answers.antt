@@ -14,7 +14,8 @@ use Rattle.nbdj_pipe.specs.Pipe.{IsPiped}
 use Rattle.nbdj_pipe.specs.inner.Session.{Runs}
 use Rattle.nbdj_pipe.specs.Talk.{Exchange}
 use Rattle.nbd_wire.specs.laws.Bytes.{keeps_same}
-use Rattle.nbdj_pipe.proofs.Lives.{lived, starved_opening, told_fault}
+use Rattle.checkpoint.specs.laws.FirstSync.{starved}
+use Rattle.nbdj_pipe.proofs.Lives.{lived, told_fault}
 use Rattle.nbdj_pipe.proofs.Sessions.{piped_or}
 use Rattle.nbdj_pipe.proofs.session.pipe_over.Goals as goal
 
@@ -29,7 +30,7 @@ returns-in-Err-clause-dialog g c = λ start opened. inl (record {
       let (content, opening) = opened.found is in (
         content,
         subst (λ left. IsOpening (g.D.Disk.state start) g.D.Disk.state (Err (fault.NoMemory, left)) content) (sym c.into_disk.ensures)
-            (starved_opening g.D.Disk.state c.args.keeper (g.D.Disk.state start) content opening),
+            (starved (g.D.Disk.state start) g.D.Disk.state content c.args.keeper opening),
       );
 })
 

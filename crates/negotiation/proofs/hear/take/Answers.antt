@@ -17,7 +17,7 @@ returns-in_err-write_due-clause-hearing g c =
     let piece = c.args.piece.now in
     let due = c.feed-fed.new.out.items in
     let feeds : Feeds old piece [] due (handed c.feed-fed.result) new = fed_first c.feed-fed.ensures.session (search rules) (search rules) in
-    took_part old new piece due c.write_due.new.due.items c.feed-fed.result (g.W.Write.contents c.args.output.now) (g.W.Write.contents c.write_due.new.output) c.feed-fed.ensures.size feeds c.from_residual.result
+    took_part old new piece due c.write_due.new.due.items c.feed-fed.result (g.W.Write.contents c.args.output.now) (g.W.Write.contents c.write_due.new.output) c.feed-fed.ensures.offer feeds c.from_residual.result
     (fault_tells c.from_residual.result IoFault c.from_residual.ensures.1 refl new) c.in_err-write_due.ensures.writes
 
 pub returns-clause-hearing : goal.returns-clause-hearing
@@ -27,5 +27,5 @@ returns-clause-hearing g c =
     let piece = c.args.piece.now in
     let due = c.feed-fed.new.out.items in
     let feeds : Feeds old piece [] due (handed c.feed-fed.result) new = fed_first c.feed-fed.ensures.session (search rules) (search rules) in
-    took old new piece due c.write_due.new.due.items c.feed-fed.result (g.W.Write.contents c.args.output.now) (g.W.Write.contents c.write_due.new.output) c.feed-fed.ensures.size feeds
+    took old new piece due c.write_due.new.due.items c.feed-fed.result (g.W.Write.contents c.args.output.now) (g.W.Write.contents c.write_due.new.output) c.feed-fed.ensures.offer feeds
     c.feed-fed.ensures.fault c.feed-fed.ensures.first c.in_ok-write_due.ensures.writes c.in_ok-write_due.ensures.none

@@ -1,3 +1,4 @@
+use Rattle.negotiation.specs.Answered.{Offer}
 use Rattle.std.proofs.Common.{◌≡◌, ℕ, ◌-◌, length, arith}
 use Rattle.std.proofs.lemmas.Result.{IfOk-weaker}
 use Rattle.negotiation.specs.inner.Session.{IsLongPart, Step, Settles}
@@ -10,6 +11,6 @@ returns-clause-takes c =
     let left = c.args.missing - length c.args.front.now in
     let none : left ≡ 0 = omega arith in
     IfOk-weaker c.settle.result (Settles c.args.option c.in_ok-answer.answer c.args.out.now.items c.settle.new.out.items)
-    (λ (talk : Talk). (size : ℕ) → Step c.args.agreed size (IsLongPart c.args.option left) c.args.out.now.items c.settle.new.out.items talk)
-    (λ talk settles size. discarded c.args.agreed size c.args.option c.ranges.option.fits c.args.out.now.items c.settle.new.out.items c.in_ok-answer.answer left none c.in_ok-answer.ensures.value talk settles)
+    (λ (talk : Talk). (offer : Offer) → Step c.args.agreed offer (IsLongPart c.args.option left) c.args.out.now.items c.settle.new.out.items talk)
+    (λ talk settles offer. discarded c.args.agreed offer c.args.option c.ranges.option.fits c.args.out.now.items c.settle.new.out.items c.in_ok-answer.answer left none c.in_ok-answer.ensures.value talk settles)
     c.settle.ensures.settles

@@ -9,11 +9,13 @@ use Rattle.device_image.specs.Keeper.{KeeperState, One}
 use Rattle.device_image.specs.Keeps.{Keeps}
 use Rattle.device_image.specs.Stands.{StandsFor}
 use Rattle.device_image.specs.laws.Kept.{kept_content}
+use Rattle.checkpoint.specs.Upgrade.{HasEitherLayout}
+use Rattle.checkpoint.proofs.HeaderLeft.{header_left}
 use Rattle.checkpoint.specs.Keeper.{AreSized, IsSized, faults_by}
 use Rattle.checkpoint.specs.inner.Upgrade.{IsLayoutFault}
 use Rattle.checkpoint.specs.declared.fault.KeeperFault.{KeeperFault}
 use Rattle.checkpoint.proofs.Rotating.{current_held, slots_synced}
-use Rattle.checkpoint.proofs.Upgrading.{change_kept, change_left, changed_by, upgrade_next}
+use Rattle.checkpoint.proofs.Upgrading.{change_kept, change_left, changed_by, header_either, upgrade_next}
 use Rattle.checkpoint.proofs.keeper.Keeper.change_layout.Goals as goal
 
 pub returns-in-Two : goal.returns-in-Two
@@ -32,6 +34,7 @@ returns-in-Two g c = record {
   honest = (λ trusted. trusted, λ trusted. trusted);
   kept = λ honest image number keeps. keeps;
   any_moment = λ honest image number keeps. begins (g.met.D.Disk.sound c.args.self.now.disk honest) (λ content left. kept_content _ _ image number keeps content left);
+  header = λ honest image number keeps. begins (g.met.D.Disk.sound c.args.self.now.disk honest) (λ content left. inl (header_left _ _ image number keeps content left));
 }
 
 pub returns-in_default : goal.returns-in_default
@@ -50,6 +53,7 @@ returns-in_default g c = record {
   honest = (λ trusted. trusted, λ trusted. trusted);
   kept = λ honest image number keeps. tt;
   any_moment = λ honest image number keeps. begins (g.met.D.Disk.sound c.args.self.now.disk honest) (λ content left. kept_content _ _ image number keeps content left);
+  header = λ honest image number keeps. begins (g.met.D.Disk.sound c.args.self.now.disk honest) (λ content left. inl (header_left _ _ image number keeps content left));
 }
 
 pub returns-in_default-upgraded : goal.returns-in_default-upgraded
@@ -68,6 +72,7 @@ returns-in_default-upgraded g c = record {
   honest = (λ trusted. trusted, λ trusted. trusted);
   kept = λ honest image number keeps. tt;
   any_moment = λ honest image number keeps. begins (g.met.D.Disk.sound c.args.self.now.disk honest) (λ content left. kept_content _ _ image number keeps content left);
+  header = λ honest image number keeps. begins (g.met.D.Disk.sound c.args.self.now.disk honest) (λ content left. inl (header_left _ _ image number keeps content left));
 }
 
 pub invariant_of-self-in-Err : goal.invariant_of-self-in-Err
@@ -141,6 +146,20 @@ returns-in-Ok g c = record {
       (upgrade_next _ before image number inside one none sound c.in-Some.geometry c.in-One.is given.2 given.0 given.1 header header_is))
       (change_left _ before image number inside one none sound c.in-Some.geometry c.in-One.is given.2 given.0 given.1 header header_is))
       honest keeps;
+  header = λ honest image number keeps.
+      subst (λ (k : KeeperState g.row.D.Denot). g.D.Disk.honest k.disk → Keeps k (g.D.Disk.state k.disk) image number → LeavesOnly (g.D.Disk.state k.disk) (g.D.Disk.state c.change_header.new.disk) (HasEitherLayout k)) c.self.view_is
+      (λ trusted inside.
+      let before = g.D.Disk.state c.self.inside.disk in
+      let sound = g.met.D.Disk.sound c.self.inside.disk trusted in
+      let one = subst (λ (k : KeeperState g.row.D.Denot). k.phase ≡ One) (sym c.self.view_is) c.requires.phase in
+      let none = subst (λ (k : KeeperState g.row.D.Denot). k.used ≡ 0) (sym c.self.view_is) c.requires.used in
+      let given = c.in-Some.ensures.given in
+      let header = c.in-Some-upgraded.header in
+      let header_is = c.in-Some-upgraded.ensures.some in
+      weakens (c.change_header.ensures.any_moment trusted (slots_synced _ before image number inside sound) c.self.inside.header (current_held _ before image number inside sound)
+      (upgrade_next _ before image number inside one none sound c.in-Some.geometry c.in-One.is given.2 given.0 given.1 header header_is))
+      (header_either _ before image number inside sound c.in-Some.geometry given.2 given.0 given.1 header header_is))
+      honest keeps;
 }
 
 pub returns-in-Err : goal.returns-in-Err
@@ -171,5 +190,19 @@ returns-in-Err g c = record {
       weakens (c.change_header.ensures.any_moment trusted (slots_synced _ before image number inside sound) c.self.inside.header (current_held _ before image number inside sound)
       (upgrade_next _ before image number inside one none sound c.in-Some.geometry c.in-One.is given.2 given.0 given.1 header header_is))
       (change_left _ before image number inside one none sound c.in-Some.geometry c.in-One.is given.2 given.0 given.1 header header_is))
+      honest keeps;
+  header = λ honest image number keeps.
+      subst (λ (k : KeeperState g.row.D.Denot). g.D.Disk.honest k.disk → Keeps k (g.D.Disk.state k.disk) image number → LeavesOnly (g.D.Disk.state k.disk) (g.D.Disk.state c.change_header.new.disk) (HasEitherLayout k)) c.self.view_is
+      (λ trusted inside.
+      let before = g.D.Disk.state c.self.inside.disk in
+      let sound = g.met.D.Disk.sound c.self.inside.disk trusted in
+      let one = subst (λ (k : KeeperState g.row.D.Denot). k.phase ≡ One) (sym c.self.view_is) c.requires.phase in
+      let none = subst (λ (k : KeeperState g.row.D.Denot). k.used ≡ 0) (sym c.self.view_is) c.requires.used in
+      let given = c.in-Some.ensures.given in
+      let header = c.in-Some-upgraded.header in
+      let header_is = c.in-Some-upgraded.ensures.some in
+      weakens (c.change_header.ensures.any_moment trusted (slots_synced _ before image number inside sound) c.self.inside.header (current_held _ before image number inside sound)
+      (upgrade_next _ before image number inside one none sound c.in-Some.geometry c.in-One.is given.2 given.0 given.1 header header_is))
+      (header_either _ before image number inside sound c.in-Some.geometry given.2 given.0 given.1 header header_is))
       honest keeps;
 }

@@ -10,7 +10,8 @@ use Rattle.checkpoint.specs.inner.Recovery.{IsRecoveryFault}
 use Rattle.checkpoint.specs.declared.fault.KeeperFault.{KeeperFault}
 use Rattle.checkpoint.specs.declared.fault.KeeperFault.TheVariants.{NumbersFull}
 use Rattle.checkpoint.proofs.Answered.{err_given, both_ways, given, ok_apart, same_answer, same_fault}
-use Rattle.checkpoint.proofs.Recovered.{copied_first, copied_last, copied_next, in_time, keeps_by, left_next, still_kept}
+use Rattle.checkpoint.proofs.HeaderLeft.{header_left}
+use Rattle.checkpoint.proofs.Recovered.{copied_first, copied_last, copied_next, header_of, in_time, keeps_by, left_next, still_kept}
 use Rattle.checkpoint.proofs.keeper.Keeper.copy_all.Goals as goal
 
 pub loop-self-init : goal.loop-self-init
@@ -23,6 +24,7 @@ loop-self-init g c = record {
   remembered = λ commands remembers. remembers;
   kept = λ honest image number keeps. keeps;
   any_moment = λ honest image number keeps. begins (g.met.D.Disk.sound c.args.self.now.disk honest) (λ content left. kept_content _ _ image number keeps content left);
+  header = λ honest image number keeps. begins (g.met.D.Disk.sound c.args.self.now.disk honest) (λ content left. header_left _ _ image number keeps content left);
 }
 
 pub loop-self-preserved : goal.loop-self-preserved
@@ -40,6 +42,8 @@ loop-self-preserved g c =
           (ap (λ (k : KeeperState g.row.D.Denot). k.count) call.ok.2) (call.held (so_far.honest.1 honest));
       any_moment = λ honest image number keeps. goes_on (so_far.any_moment honest image number keeps)
           (call.any_moment (so_far.honest.1 honest) image number (so_far.kept honest image number keeps)) (λ content stands. stands);
+      header = λ honest image number keeps. goes_on (so_far.header honest image number keeps)
+          (call.header (so_far.honest.1 honest) image number (so_far.kept honest image number keeps)) (header_of c.args.self.now c.loop-self.self _ _ _ _ so_far.copied);
     }
 
 pub returns : goal.returns
@@ -55,6 +59,7 @@ returns g c = record {
   kept = c.loop-self.invariant.kept;
   kept_still = λ honest image number keeps. tt;
   any_moment = c.loop-self.invariant.any_moment;
+  header = c.loop-self.invariant.header;
 }
 
 pub returns-in_err-_blocks : goal.returns-in_err-_blocks
@@ -83,4 +88,8 @@ returns-in_err-_blocks g c = record {
       let so_far = c.loop-self.invariant in
       goes_on (so_far.any_moment honest image number keeps)
       (c.in_err-_blocks.ensures.any_moment (so_far.honest.1 honest) image number (so_far.kept honest image number keeps)) (λ content stands. stands);
+  header = λ honest image number keeps.
+      let so_far = c.loop-self.invariant in
+      goes_on (so_far.header honest image number keeps)
+      (c.in_err-_blocks.ensures.header (so_far.honest.1 honest) image number (so_far.kept honest image number keeps)) (header_of c.args.self.now c.loop-self.self _ _ _ _ so_far.copied);
 }

@@ -3,6 +3,7 @@ use Rattle.disk_model.specs.Disk.{LeavesOnly}
 use Rattle.image_model.specs.Image.{Image}
 use Rattle.device_image.specs.Keeps.{Keeps}
 use Rattle.device_image.specs.Stands.{StandsFor}
+use Rattle.checkpoint.specs.Headers.{HasHeader}
 use Rattle.checkpoint.specs.Steps.{fewer, left_in}
 use Rattle.checkpoint.proofs.Recovered.{copied_to}
 use Rattle.checkpoint.proofs.keeper.Keeper.copy_all.Given as goal
@@ -21,6 +22,8 @@ invariant-loop-self g l = record {
       → Keeps l.self (g.D.Disk.state l.self.disk) image number;
   any_moment : g.D.Disk.honest l.fn.self.disk → (image : Image) (number : ℕ) → Keeps l.fn.self (g.D.Disk.state l.fn.self.disk) image number
       → LeavesOnly (g.D.Disk.state l.fn.self.disk) (g.D.Disk.state l.self.disk) (λ content. StandsFor content image number);
+  header : g.D.Disk.honest l.fn.self.disk → (image : Image) (number : ℕ) → Keeps l.fn.self (g.D.Disk.state l.fn.self.disk) image number
+      → LeavesOnly (g.D.Disk.state l.fn.self.disk) (g.D.Disk.state l.self.disk) (HasHeader l.fn.self.geometry l.fn.self.generation);
 }
 
 abbrev pub decreases-loop-self : goal.decreases-loop-self

@@ -37,4 +37,5 @@ returns-in_err-_one g c =
       remembered = λ commands remembers. IfOk-from_err result _ c.from_residual.ensures.0;
       held = λ honest base fronts last holds. IfOk-from_err result _ c.from_residual.ensures.0;
       any_moment = call.any_moment;
+      header = call.header;
     }

@@ -18,6 +18,8 @@ use Rattle.device_image.specs.Remembers.{Remembers}
 use Rattle.device_image.specs.Keeps.{Keeps}
 use Rattle.device_image.specs.Stands.{StandsFor}
 use Rattle.device_image.specs.laws.Kept.{kept_content}
+use Rattle.checkpoint.specs.Headers.{HasHeader}
+use Rattle.checkpoint.proofs.HeaderLeft.{header_left, header_torn}
 use Rattle.regions.specs.Layout.{block_at}
 use Rattle.checkpoint.proofs.Copying.{copy_held, copy_left}
 use Rattle.checkpoint.proofs.keeper.Keeper.copy_some.Goals as goal
@@ -116,6 +118,7 @@ returns-then-self g c =
       remembered = λ commands remembers. tt;
       held = λ honest base fronts last holds. tt;
       any_moment = λ honest image number keeps. begins (g.met.D.Disk.sound c.args.self.now.disk honest) (λ content left. kept_content _ _ image number keeps content left);
+      header = λ honest image number keeps. begins (g.met.D.Disk.sound c.args.self.now.disk honest) (λ content left. header_left _ _ image number keeps content left);
     }
 
 pub returns-in_default : goal.returns-in_default
@@ -139,6 +142,9 @@ returns-in_default g c =
       any_moment = λ honest image number keeps.
           subst (λ (disk : g.row.D.Denot). LeavesOnly (g.D.Disk.state c.args.self.now.disk) (g.D.Disk.state disk) (λ content. StandsFor content image number)) (sym same)
           (begins (g.met.D.Disk.sound c.args.self.now.disk honest) (λ content left. kept_content _ _ image number keeps content left));
+      header = λ honest image number keeps.
+          subst (λ (disk : g.row.D.Denot). LeavesOnly (g.D.Disk.state c.args.self.now.disk) (g.D.Disk.state disk) (HasHeader c.args.self.now.geometry c.args.self.now.generation)) (sym same)
+          (begins (g.met.D.Disk.sound c.args.self.now.disk honest) (λ content left. header_left _ _ image number keeps content left));
     }
 
 pub returns-in_default-next_copy : goal.returns-in_default-next_copy
@@ -178,6 +184,9 @@ returns-in_default-next_copy g c =
       any_moment = λ honest image number keeps.
           subst (λ (disk : g.row.D.Denot). LeavesOnly (g.D.Disk.state c.args.self.now.disk) (g.D.Disk.state disk) (λ content. StandsFor content image number)) (sym same)
           (begins (g.met.D.Disk.sound c.args.self.now.disk honest) (λ content left. kept_content _ _ image number keeps content left));
+      header = λ honest image number keeps.
+          subst (λ (disk : g.row.D.Denot). LeavesOnly (g.D.Disk.state c.args.self.now.disk) (g.D.Disk.state disk) (HasHeader c.args.self.now.geometry c.args.self.now.generation)) (sym same)
+          (begins (g.met.D.Disk.sound c.args.self.now.disk honest) (λ content left. header_left _ _ image number keeps content left));
     }
 
 pub returns-in_err-buffer : goal.returns-in_err-buffer
@@ -226,6 +235,10 @@ returns-in_err-buffer g c = record {
       let same = ap (λ (k : KeeperState g.row.D.Denot). k.disk) (sym c.self.view_is) in
       subst (λ (disk : g.row.D.Denot). LeavesOnly (g.D.Disk.state c.args.self.now.disk) (g.D.Disk.state disk) (λ content. StandsFor content image number)) same
       (begins (g.met.D.Disk.sound c.args.self.now.disk honest) (λ content left. kept_content _ _ image number keeps content left));
+  header = λ honest image number keeps.
+      let same = ap (λ (k : KeeperState g.row.D.Denot). k.disk) (sym c.self.view_is) in
+      subst (λ (disk : g.row.D.Denot). LeavesOnly (g.D.Disk.state c.args.self.now.disk) (g.D.Disk.state disk) (HasHeader c.args.self.now.geometry c.args.self.now.generation)) same
+      (begins (g.met.D.Disk.sound c.args.self.now.disk honest) (λ content left. header_left _ _ image number keeps content left));
 }
 
 pub invariant_of-self-in_err-buffer : goal.invariant_of-self-in_err-buffer
@@ -355,6 +368,10 @@ returns-in-Ok g c = record {
       weakens (c.copy_over.ensures.any_moment sound)
       (copy_left _ (g.D.Disk.state c.self.inside.disk) image number inside c.in-Some.plan c.self.inside.waiting.items (ap (λ (p : Option PlanState). plans_of p c.self.inside.waiting.items) c.in-Some.is) put c.args.most c.in-Some-next_copy.ensures.some c.in-Some-next_copy.ensures.unmapped _ _ place count))
       honest keeps;
+  header = λ honest image number keeps.
+      subst (λ (k : KeeperState g.row.D.Denot). g.D.Disk.honest k.disk → Keeps k (g.D.Disk.state k.disk) image number → LeavesOnly (g.D.Disk.state k.disk) (g.D.Disk.state c.copy_over.new.disk) (HasHeader k.geometry k.generation)) c.self.view_is
+      (λ sound inside. weakens (c.copy_over.ensures.any_moment sound) (header_torn _ (g.D.Disk.state c.self.inside.disk) image number inside _ _ (omega arith)))
+      honest keeps;
 }
 
 pub returns : goal.returns
@@ -411,6 +428,10 @@ returns g c = record {
       let count : length c.deref_mut.result.now ≡ 4096 * put.blocks = omega (arith, c.deref_mut.ensures.len, c.in_ok-buffer.ensures.len) in
       weakens (c.copy_over.ensures.any_moment sound)
       (copy_left _ (g.D.Disk.state c.self.inside.disk) image number inside c.in-Some.plan c.self.inside.waiting.items (ap (λ (p : Option PlanState). plans_of p c.self.inside.waiting.items) c.in-Some.is) put c.args.most c.in-Some-next_copy.ensures.some c.in-Some-next_copy.ensures.unmapped _ _ place count))
+      honest keeps;
+  header = λ honest image number keeps.
+      subst (λ (k : KeeperState g.row.D.Denot). g.D.Disk.honest k.disk → Keeps k (g.D.Disk.state k.disk) image number → LeavesOnly (g.D.Disk.state k.disk) (g.D.Disk.state c.copy_over.new.disk) (HasHeader k.geometry k.generation)) c.self.view_is
+      (λ sound inside. weakens (c.copy_over.ensures.any_moment sound) (header_torn _ (g.D.Disk.state c.self.inside.disk) image number inside _ _ (omega arith)))
       honest keeps;
 }
 

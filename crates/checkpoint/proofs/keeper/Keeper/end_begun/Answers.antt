@@ -1,14 +1,16 @@
-use Rattle.std.proofs.Common.{◌≡◌, ◌≢◌, ◌+◌, ◌<◌, ℕ, List, [], ◌∷◌, length, refl, sym, ◌∙◌, ap, subst, arith}
+use Rattle.std.proofs.Common.{◌≡◌, ◌≢◌, ◌+◌, ◌≤◌, ◌<◌, ℕ, suc, List, [], ◌∷◌, length, refl, sym, ◌∙◌, ap, subst, arith}
 use Rattle.std.proofs.lemmas.Result.{IfOk-from_err}
 use Rattle.checkpoint.proofs.Answered.{err_given, both_ways, same_answer}
 use Rattle.disk_model.specs.laws.Moments.{begins, goes_on}
 use Rattle.device_image.specs.Keeper.{KeeperState}
 use Rattle.device_image.specs.laws.Kept.{kept_content}
+use Rattle.checkpoint.specs.Headers.{HeadersFollow}
 use Rattle.checkpoint.specs.Steps.{behind_first}
 use Rattle.checkpoint.specs.inner.Recovery.{IsBegun}
 use Rattle.checkpoint.specs.declared.fault.KeeperFault.TheVariants.{DeviceFault}
 use Rattle.device_image.specs.Keeps.{Keeps}
-use Rattle.checkpoint.proofs.Recovered.{begun_left}
+use Rattle.checkpoint.proofs.HeaderLeft.{header_left}
+use Rattle.checkpoint.proofs.Recovered.{begun_left, step_next}
 use Rattle.checkpoint.proofs.keeper.Keeper.end_begun.Goals as goal
 
 pub loop-self-init : goal.loop-self-init
@@ -24,6 +26,7 @@ loop-self-init g c = record {
   honest = (λ honest. honest, λ honest. honest);
   kept = λ honest image number keeps. keeps;
   any_moment = λ honest image number keeps. begins (g.met.D.Disk.sound c.args.self.now.disk honest) (λ content left. kept_content _ _ image number keeps content left);
+  headers = λ honest image number keeps. (0, omega arith, begins (g.met.D.Disk.sound c.args.self.now.disk honest) (λ content left. header_left _ _ image number keeps content left));
 }
 
 one_fewer : (turned : List ℕ) → 0 < length turned → length (behind_first turned) + 1 ≡ length turned
@@ -52,6 +55,16 @@ loop-self-preserved g c =
       kept = λ honest image number keeps. call.kept (so_far.honest.1 honest) image number (so_far.kept honest image number keeps);
       any_moment = λ honest image number keeps. goes_on (so_far.any_moment honest image number keeps)
           (call.any_moment (so_far.honest.1 honest) image number (so_far.kept honest image number keeps)) (λ content stands. stands);
+      headers = λ honest image number keeps.
+          let behind = so_far.headers honest image number keeps in
+          let left = ap (λ (k : KeeperState g.row.D.Denot). length k.turned) call.ok in
+          let one = one_fewer mid.turned (c.loop-self-test.ensures.turning refl).1 in
+          let many : suc behind.0 + length c.end_checkpoint.new.self.turned ≡ length c.args.self.now.turned = omega (arith, behind.1, left, one) in
+          let number_is : mid.generation ≡ c.args.self.now.generation + behind.0 = omega (arith, so_far.generation, behind.1) in (
+            suc behind.0,
+            many,
+            (mid.disk, behind.2, step_next c.args.self.now mid behind.0 _ _ so_far.sizes number_is (call.header (so_far.honest.1 honest) image number (so_far.kept honest image number keeps))),
+          );
     }
 
 pub returns-in_err-end_checkpoint-clause-kept_still : goal.returns-in_err-end_checkpoint-clause-kept_still
@@ -65,6 +78,32 @@ returns-in_err-end_checkpoint-clause-any_moment g c honest image number keeps =
     let so_far = c.loop-self.invariant in
     goes_on (so_far.any_moment honest image number keeps)
     (c.in_err-end_checkpoint.ensures.any_moment (so_far.honest.1 honest) image number (so_far.kept honest image number keeps)) (λ content stands. stands)
+
+pub returns-in_err-end_checkpoint-clause-headers_err : goal.returns-in_err-end_checkpoint-clause-headers_err
+returns-in_err-end_checkpoint-clause-headers_err g c honest image number keeps =
+    let so_far = c.loop-self.invariant in
+    let mid = c.loop-self.self in
+    let behind = so_far.headers honest image number keeps in
+    let some = (c.loop-self-test.ensures.turning refl).1 in
+    let few : suc behind.0 ≤ length c.args.self.now.turned = omega (arith, behind.1, some) in
+    let number_is : mid.generation ≡ c.args.self.now.generation + behind.0 = omega (arith, so_far.generation, behind.1) in
+    err_given _ c.from_residual.result c.in_err-end_checkpoint.field-0.0 c.from_residual.ensures.1 (
+      suc behind.0,
+      few,
+      (mid.disk, behind.2, step_next c.args.self.now mid behind.0 _ _ so_far.sizes number_is (c.in_err-end_checkpoint.ensures.header (so_far.honest.1 honest) image number (so_far.kept honest image number keeps))),
+    )
+
+pub returns-in_err-end_checkpoint-clause-headers_ok : goal.returns-in_err-end_checkpoint-clause-headers_ok
+returns-in_err-end_checkpoint-clause-headers_ok g c honest image number keeps =
+    IfOk-from_err c.from_residual.result _ c.from_residual.ensures.0
+
+pub returns-clause-headers_ok : goal.returns-clause-headers_ok
+returns-clause-headers_ok g c honest image number keeps =
+    let so_far = c.loop-self.invariant in
+    let behind = so_far.headers honest image number keeps in
+    let none = ap (λ (turned : List ℕ). length turned) (c.loop-self-test.ensures.resting refl).1 in
+    let all : behind.0 ≡ length c.args.self.now.turned = omega (arith, behind.1, none) in
+    subst (λ (n : ℕ). HeadersFollow g.D.Disk.state c.args.self.now.geometry c.args.self.now.generation n (g.D.Disk.state c.args.self.now.disk) (g.D.Disk.state c.loop-self.self.disk)) all behind.2
 
 pub returns-in_err-end_checkpoint-clause-ok : goal.returns-in_err-end_checkpoint-clause-ok
 returns-in_err-end_checkpoint-clause-ok g c =

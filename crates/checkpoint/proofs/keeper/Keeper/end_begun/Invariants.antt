@@ -4,6 +4,7 @@ use Rattle.image_model.specs.Image.{Image}
 use Rattle.device_image.specs.Keeper.{One}
 use Rattle.device_image.specs.Keeps.{Keeps}
 use Rattle.device_image.specs.Stands.{StandsFor}
+use Rattle.checkpoint.specs.Headers.{HeadersFollow}
 use Rattle.checkpoint.specs.inner.Recovery.{IsBegun}
 use Rattle.checkpoint.proofs.keeper.Keeper.end_begun.Given as goal
 
@@ -22,6 +23,8 @@ invariant-loop-self g l = record {
       → Keeps l.self (g.D.Disk.state l.self.disk) image number;
   any_moment : g.D.Disk.honest l.fn.self.disk → (image : Image) (number : ℕ) → Keeps l.fn.self (g.D.Disk.state l.fn.self.disk) image number
       → LeavesOnly (g.D.Disk.state l.fn.self.disk) (g.D.Disk.state l.self.disk) (λ content. StandsFor content image number);
+  headers : g.D.Disk.honest l.fn.self.disk → (image : Image) (number : ℕ) → Keeps l.fn.self (g.D.Disk.state l.fn.self.disk) image number
+      → (headers : ℕ) × (headers + length l.self.turned ≡ length l.fn.self.turned) × HeadersFollow g.D.Disk.state l.fn.self.geometry l.fn.self.generation headers (g.D.Disk.state l.fn.self.disk) (g.D.Disk.state l.self.disk);
 }
 
 abbrev pub decreases-loop-self : goal.decreases-loop-self

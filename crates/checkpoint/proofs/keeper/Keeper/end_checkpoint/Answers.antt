@@ -1,8 +1,11 @@
-use Rattle.std.proofs.Common.{◌≡◌, ℕ, Ok, Err, sym, ◌∙◌, ap, subst}
+use Rattle.std.proofs.Common.{◌≡◌, ℕ, inl, Ok, Err, sym, ◌∙◌, ap, subst}
 use Rattle.std.specs.Prelude.{IfErr, IsErr, OnOk}
 use Rattle.std.proofs.lemmas.Bool.{false≢true}
 use Rattle.device_image.specs.Keeper.{KeeperState}
-use Rattle.disk_model.specs.laws.Moments.{goes_on}
+use Rattle.disk_model.specs.Disk.{State, LeavesOnly}
+use Rattle.disk_model.specs.laws.Moments.{goes_on, weakens}
+use Rattle.checkpoint.specs.Headers.{HasHeader, HasHeaderOrNext}
+use Rattle.checkpoint.specs.Steps.{copied_by, left_in, mapped_by}
 use Rattle.checkpoint.specs.Keeper.{faults_by, refused_by}
 use Rattle.checkpoint.specs.inner.Recovery.{IsRecoveryFault}
 use Rattle.checkpoint.proofs.Answered.{Given, err_given, given, same_answer}
@@ -30,6 +33,30 @@ returns-clause-any_moment g c honest image number keeps =
     let first_kept = first.kept honest image number keeps in
     goes_on (goes_on (first.any_moment honest image number keeps) (second.any_moment first_honest image number first_kept) (λ content stands. stands))
     (c.finish.ensures.any_moment (second.honest.1 first_honest) image number (keeps_by c.copy_all.new.self c.write_map.new.self _ _ image number (first_kept) (ap (λ (k : KeeperState g.row.D.Denot). k.count) second.ok) (second.held first_honest))) (λ content stands. stands)
+
+mapped_header : {D : Type 0} {before after : State} (old copied mapped : KeeperState D) → copied ≡ copied_by old (left_in old.phase) copied.disk copied.memory → mapped ≡ mapped_by copied mapped.disk mapped.memory
+    → LeavesOnly before after (HasHeaderOrNext mapped.geometry mapped.generation) → LeavesOnly before after (HasHeaderOrNext old.geometry old.generation)
+mapped_header {D} {before} {after} old copied mapped first second call =
+    subst (λ (k : KeeperState D). LeavesOnly before after (HasHeaderOrNext k.geometry k.generation)) first (subst (λ (k : KeeperState D). LeavesOnly before after (HasHeaderOrNext k.geometry k.generation)) second call)
+
+copied_header : {D : Type 0} {before after : State} (old copied : KeeperState D) → copied ≡ copied_by old (left_in old.phase) copied.disk copied.memory → LeavesOnly before after (HasHeader copied.geometry copied.generation) → LeavesOnly before after (HasHeader old.geometry old.generation)
+copied_header {D} {before} {after} old copied first call = subst (λ (k : KeeperState D). LeavesOnly before after (HasHeader k.geometry k.generation)) first call
+
+pub returns-in_err-write_map-clause-header : goal.returns-in_err-write_map-clause-header
+returns-in_err-write_map-clause-header g c honest image number keeps =
+    let first = c.in_ok-copy_all.ensures in
+    weakens (goes_on (first.header honest image number keeps)
+    (copied_header c.args.self.now c.copy_all.new.self first.ok (c.in_err-write_map.ensures.header (first.honest.1 honest) image number (first.kept honest image number keeps))) (λ content has. has)) (λ content has. inl has)
+
+pub returns-clause-header : goal.returns-clause-header
+returns-clause-header g c honest image number keeps =
+    let first = c.in_ok-copy_all.ensures in
+    let second = c.in_ok-write_map.ensures in
+    let first_honest = first.honest.1 honest in
+    let first_kept = first.kept honest image number keeps in
+    goes_on (weakens (goes_on (first.header honest image number keeps) (copied_header c.args.self.now c.copy_all.new.self first.ok (second.header first_honest image number first_kept)) (λ content has. has)) (λ content has. inl has))
+    (mapped_header c.args.self.now c.copy_all.new.self c.write_map.new.self first.ok second.ok
+    (c.finish.ensures.header (second.honest.1 first_honest) image number (keeps_by c.copy_all.new.self c.write_map.new.self _ _ image number (first_kept) (ap (λ (k : KeeperState g.row.D.Denot). k.count) second.ok) (second.held first_honest)))) (λ content has. has)
 
 pub returns-clause-kept : goal.returns-clause-kept
 returns-clause-kept g c honest image number keeps =
@@ -138,6 +165,7 @@ returns-in_err-copy_all g c = record {
   kept = λ honest image number keeps. ok_none c.from_residual.result _ c.from_residual.ensures.0;
   kept_still = λ honest image number keeps. err_given _ c.from_residual.result c.in_err-copy_all.field-0.0 c.from_residual.ensures.1 (c.in_err-copy_all.ensures.kept_still honest image number keeps);
   any_moment = c.in_err-copy_all.ensures.any_moment;
+  header = λ honest image number keeps. weakens (c.in_err-copy_all.ensures.header honest image number keeps) (λ content has. inl has);
 }
 
 pub returns-in_err-write_map-clause-full : goal.returns-in_err-write_map-clause-full

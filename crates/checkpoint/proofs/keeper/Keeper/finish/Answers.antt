@@ -15,6 +15,8 @@ use Rattle.device_image.specs.Keeps.{Keeps}
 use Rattle.device_image.specs.Stands.{StandsFor}
 use Rattle.device_image.specs.laws.Counted.{remembers_still}
 use Rattle.device_image.specs.laws.Kept.{kept_content}
+use Rattle.checkpoint.specs.Headers.{HasHeaderOrNext}
+use Rattle.checkpoint.proofs.HeaderLeft.{header_changes, header_left}
 use Rattle.checkpoint.specs.Keeper.{AreSized, IsSized, faults_by, plans_of, refused_by}
 use Rattle.checkpoint.specs.declared.fault.KeeperFault.{KeeperFault}
 use Rattle.checkpoint.specs.Steps.{IsFinishTime, IsStepFault, finished_by, first_turned}
@@ -41,6 +43,7 @@ returns-then-self g c =
       remembered = λ commands remembers. tt;
       held = λ honest base first others last holds. tt;
       any_moment = λ honest image number keeps. begins (g.met.D.Disk.sound c.args.self.now.disk honest) (λ content left. kept_content _ _ image number keeps content left);
+      header = λ honest image number keeps. begins (g.met.D.Disk.sound c.args.self.now.disk honest) (λ content left. inl (header_left _ _ image number keeps content left));
     }
 
 pub returns-in_default : goal.returns-in_default
@@ -61,6 +64,7 @@ returns-in_default g c =
       remembered = λ commands remembers. tt;
       held = λ honest base first others last holds. tt;
       any_moment = λ honest image number keeps. begins (g.met.D.Disk.sound c.args.self.now.disk honest) (λ content left. kept_content _ _ image number keeps content left);
+      header = λ honest image number keeps. begins (g.met.D.Disk.sound c.args.self.now.disk honest) (λ content left. inl (header_left _ _ image number keeps content left));
     }
 
 pub returns-in_default-next : goal.returns-in_default-next
@@ -82,6 +86,7 @@ returns-in_default-next g c =
       remembered = λ commands remembers. tt;
       held = λ honest base first others last holds. tt;
       any_moment = λ honest image number keeps. begins (g.met.D.Disk.sound c.args.self.now.disk honest) (λ content left. kept_content _ _ image number keeps content left);
+      header = λ honest image number keeps. begins (g.met.D.Disk.sound c.args.self.now.disk honest) (λ content left. inl (header_left _ _ image number keeps content left));
     }
 
 pub invariant_of-self : goal.invariant_of-self
@@ -233,6 +238,28 @@ returns-in-Ok g c =
           (finish_next _ before image number inside sound end.plan end.rest end.is end.after end.mapped fits header base end.base_at header_is))
           (finish_left _ before image number inside sound end.plan end.rest end.is end.after end.mapped fits header base end.base_at header_is))
           honest keeps);
+      header = λ honest image number keeps.
+          let same = ap (λ (k : KeeperState g.row.D.Denot). k.disk) (sym c.take_over.ensures) in
+          subst (λ (disk : g.row.D.Denot). LeavesOnly (g.D.Disk.state c.args.self.now.disk) (g.D.Disk.state disk) (HasHeaderOrNext c.args.self.now.geometry c.args.self.now.generation)) same
+          (subst (λ (k : KeeperState g.row.D.Denot). g.D.Disk.honest k.disk → Keeps k (g.D.Disk.state k.disk) image number → LeavesOnly (g.D.Disk.state k.disk) (g.D.Disk.state c.change_header.new.disk) (HasHeaderOrNext k.geometry k.generation)) c.self.view_is
+          (λ trusted inside.
+          let before = g.D.Disk.state c.self.inside.disk in
+          let sound = g.met.D.Disk.sound c.self.inside.disk trusted in
+          let inside_header = c.self.inside.header in
+          let plans = plans_of c.self.inside.plan c.self.inside.waiting.items in
+          let base = c.in-Some.base in
+          let header = c.in-Some-next.header in
+          let end = ending plans base inside_header.base c.self.inside.map
+          (subst (λ (k : KeeperState g.row.D.Denot). IsFinishTime k.phase) (sym c.self.view_is) c.in-Some.ensures.some.0)
+          (c.in-Some.ensures.some.1 ∙ ap (λ (k : KeeperState g.row.D.Denot). first_turned k.base k.turned) (sym c.self.view_is)) in
+          let header_is : IsRenewed inside_header (without_first inside_header base) header =
+          subst (λ (change : HeaderChange). IsRenewed inside_header change header)
+          (c.without_first.ensures.change ∙ ap (λ (k : KeeperState g.row.D.Denot). without_first k.memory.header base) (sym c.self.view_is)) c.in-Some-next.ensures.some in
+          let fits : inside_header.base < 18446744073709551616 = omega arith in
+          weakens (c.change_header.ensures.any_moment trusted (slots_synced _ before image number inside sound) inside_header (current_held _ before image number inside sound)
+          (finish_next _ before image number inside sound end.plan end.rest end.is end.after end.mapped fits header base end.base_at header_is))
+          (header_changes _ before image number inside sound header header_is.generation header_is.geometry))
+          honest keeps);
     }
 
 pub returns-in-Err : goal.returns-in-Err
@@ -272,5 +299,25 @@ returns-in-Err g c =
           weakens (c.change_header.ensures.any_moment trusted (slots_synced _ before image number inside sound) inside_header (current_held _ before image number inside sound)
           (finish_next _ before image number inside sound end.plan end.rest end.is end.after end.mapped fits header base end.base_at header_is))
           (finish_left _ before image number inside sound end.plan end.rest end.is end.after end.mapped fits header base end.base_at header_is))
+          honest keeps;
+      header = λ honest image number keeps.
+          subst (λ (k : KeeperState g.row.D.Denot). g.D.Disk.honest k.disk → Keeps k (g.D.Disk.state k.disk) image number → LeavesOnly (g.D.Disk.state k.disk) (g.D.Disk.state c.change_header.new.disk) (HasHeaderOrNext k.geometry k.generation)) c.self.view_is
+          (λ trusted inside.
+          let before = g.D.Disk.state c.self.inside.disk in
+          let sound = g.met.D.Disk.sound c.self.inside.disk trusted in
+          let inside_header = c.self.inside.header in
+          let plans = plans_of c.self.inside.plan c.self.inside.waiting.items in
+          let base = c.in-Some.base in
+          let header = c.in-Some-next.header in
+          let end = ending plans base inside_header.base c.self.inside.map
+          (subst (λ (k : KeeperState g.row.D.Denot). IsFinishTime k.phase) (sym c.self.view_is) c.in-Some.ensures.some.0)
+          (c.in-Some.ensures.some.1 ∙ ap (λ (k : KeeperState g.row.D.Denot). first_turned k.base k.turned) (sym c.self.view_is)) in
+          let header_is : IsRenewed inside_header (without_first inside_header base) header =
+          subst (λ (change : HeaderChange). IsRenewed inside_header change header)
+          (c.without_first.ensures.change ∙ ap (λ (k : KeeperState g.row.D.Denot). without_first k.memory.header base) (sym c.self.view_is)) c.in-Some-next.ensures.some in
+          let fits : inside_header.base < 18446744073709551616 = omega arith in
+          weakens (c.change_header.ensures.any_moment trusted (slots_synced _ before image number inside sound) inside_header (current_held _ before image number inside sound)
+          (finish_next _ before image number inside sound end.plan end.rest end.is end.after end.mapped fits header base end.base_at header_is))
+          (header_changes _ before image number inside sound header header_is.generation header_is.geometry))
           honest keeps;
     }

@@ -5,10 +5,10 @@ use Rattle.disk_model.specs.laws.Moments.{goes_on, weakens}
 use Rattle.device_image.specs.Keeper.{KeeperState}
 use Rattle.device_image.specs.Keeps.{Keeps}
 use Rattle.device_image.specs.Stands.{StandsFor}
-use Rattle.checkpoint.specs.Opening.{IsAtRest, IsFixedOrNot, IsOpeningRefused, headers_for}
+use Rattle.checkpoint.specs.Opening.{IsAtRest, IsOpeningRefused, headers_for}
 use Rattle.checkpoint.specs.declared.fault.KeeperFault.TheVariants.{DeviceFault, NumbersFull}
 use Rattle.checkpoint.proofs.Opened.{keeps_same, passes, stood}
-use Rattle.checkpoint.proofs.Reopened.{empty_base, headers_left, is_full, recovers, refused_opening, refused_recovery, rests, stood_content}
+use Rattle.checkpoint.proofs.Reopened.{CrashAndHeaders, empty_base, headers_left, headers_most, is_full, read_leaves, recovers, refused_opening, refused_recovery, rests, stood_content}
 use Rattle.checkpoint.proofs.keeper.Keeper.open.Goals as goal
 
 pub returns-in-Ok-recover-clause-found : goal.returns-in-Ok-recover-clause-found
@@ -23,7 +23,10 @@ returns-in-Ok-recover-clause-found g c honest =
     let new = c.recover.new.self in
     let generation = call.generation ∙ headers_left keeper (g.D.Disk.state keeper.disk) found.0 keeper.count found.1 read.turned in
     let stands = subst (λ (n : ℕ). (stands : StandsFor (g.D.Disk.state keeper.disk).seen found.0 n) × (new.geometry ≡ stands.header.geometry) × (new.generation ≡ stands.header.generation + headers_for stands.lists)) (sym counted)
-    (found.1.stands, call.sizes ∙ found.1.sizes, generation) in (
+    (found.1.stands, call.sizes ∙ found.1.sizes, generation) in
+    let leaves = recovers (g.D.Disk.state c.args.disk) g.D.Disk.state (g.D.Disk.state keeper.disk).seen keeper (Ok new) found.0 keeper.count found.1.stands _ found.1.sizes found.1.generation
+    (headers_most keeper (g.D.Disk.state keeper.disk) found.0 keeper.count found.1 read.turned)
+    (read.first honest) (call.any_moment trusted found.0 keeper.count found.1) (call.headers trusted found.0 keeper.count found.1) in (
       (g.D.Disk.state keeper.disk).seen,
       record {
         fixed = read.fixed honest;
@@ -35,7 +38,8 @@ returns-in-Ok-recover-clause-found g c honest =
           stands.1,
           stands.2,
         );
-        crash = recovers (g.D.Disk.state c.args.disk) g.D.Disk.state (g.D.Disk.state keeper.disk).seen keeper (Ok new) found.0 keeper.count found.1.stands (read.first honest) (call.any_moment trusted found.0 keeper.count found.1);
+        crash = leaves.0;
+        headers = leaves.1;
       },
     )
 
@@ -82,7 +86,11 @@ returns-in-Err-recover-clause-found g c honest =
     let trusted = read.honest.1 honest in
     let found = read.found honest in
     let mid = g.D.Disk.state keeper.disk in
-    let kept = call.kept_still trusted found.0 keeper.count found.1 in (
+    let kept = call.kept_still trusted found.0 keeper.count found.1 in
+    let leaves = subst (λ (disk : g.row.D.Denot). CrashAndHeaders (g.D.Disk.state c.args.disk) g.D.Disk.state (Err (c.in-Err-recover.fault, disk)) mid.seen) (sym c.into_disk.ensures)
+    (recovers (g.D.Disk.state c.args.disk) g.D.Disk.state mid.seen keeper (Err (c.in-Err-recover.fault, left.disk)) found.0 keeper.count found.1.stands _ found.1.sizes found.1.generation
+    (headers_most keeper mid found.0 keeper.count found.1 read.turned)
+    (read.first honest) (call.any_moment trusted found.0 keeper.count found.1) (call.headers trusted found.0 keeper.count found.1)) in (
       mid.seen,
       record {
         fixed = read.fixed honest;
@@ -94,8 +102,8 @@ returns-in-Err-recover-clause-found g c honest =
               λ rest. let at = rests left (g.D.Disk.state left.disk) found.0 keeper.count still rest in call.wanted (ap Err is) at.0 at.1,
               (found.0, keeper.count, found.1.stands, subst (λ (n : ℕ). 18446744073709551615 < n) (headers_left keeper mid found.0 keeper.count found.1 read.turned) (call.lacks (ap Err is))),
             )));
-        crash = subst (λ (disk : g.row.D.Denot). IsFixedOrNot (g.D.Disk.state c.args.disk) g.D.Disk.state (Err (c.in-Err-recover.fault, disk)) mid.seen) (sym c.into_disk.ensures)
-            (recovers (g.D.Disk.state c.args.disk) g.D.Disk.state mid.seen keeper (Err (c.in-Err-recover.fault, left.disk)) found.0 keeper.count found.1.stands (read.first honest) (call.any_moment trusted found.0 keeper.count found.1));
+        crash = leaves.0;
+        headers = leaves.1;
       },
     )
 
@@ -123,12 +131,14 @@ returns-in-Err-recover-clause-at_rest g c honest synced rest =
 pub returns-in-Err-clause-found : goal.returns-in-Err-clause-found
 returns-in-Err-clause-found g c honest =
     let read = c.in-Err.ensures in
-    let after = g.D.Disk.state c.in-Err.refused.1 in (
+    let after = g.D.Disk.state c.in-Err.refused.1 in
+    let leaves = read_leaves (g.D.Disk.state c.args.disk) g.D.Disk.state after.seen (Err c.in-Err.refused) (read.first honest) in (
       after.seen,
       record {
         fixed = read.fixed honest;
         outcome = refused_opening c.in-Err.refused.0 after.seen after.seen (read.found honest);
-        crash = read.first honest;
+        crash = leaves.0;
+        headers = leaves.1;
       },
     )
 

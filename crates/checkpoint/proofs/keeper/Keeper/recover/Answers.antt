@@ -1,4 +1,4 @@
-use Rattle.std.proofs.Common.{ap, Err, List, [], ◌∷◌, ◌++◌, ◌+◌, ◌<◌, ◌∙◌, ◌≡◌, ◌≢◌, arith, length, ℕ, zero, suc, false, true, ◌==◌, refl, sym, subst}
+use Rattle.std.proofs.Common.{ap, Err, List, [], ◌∷◌, ◌++◌, ◌+◌, ◌≤◌, ◌<◌, ◌∙◌, ◌≡◌, ◌≢◌, arith, length, ℕ, zero, suc, false, true, ◌==◌, refl, sym, subst}
 use Rattle.checkpoint.specs.Keeper.{faults_by}
 use Rattle.checkpoint.specs.inner.Recovery.{IsRecoveryFault, headers_at}
 use Rattle.std.proofs.lemmas.Result.{IfOk-from_err, IfOk-weaker, IfErr-weaker}
@@ -6,11 +6,19 @@ use Rattle.checkpoint.proofs.Answered.{err_given, both_ways, ok_apart, same_answ
 use Rattle.device_image.specs.Keeper.{KeeperState, count_puts, last_turned}
 use Rattle.device_image.specs.Keeps.{Keeps}
 use Rattle.checkpoint.specs.declared.fault.KeeperFault.TheVariants.{DeviceFault}
-use Rattle.checkpoint.proofs.Recovered.{generation_ended, keeps_begun, recovered_by, sizes_ended, still_kept}
+use Rattle.checkpoint.proofs.Recovered.{generation_ended, keeps_begun, recovered_by, sizes_ended, step_next, still_kept}
 use Rattle.disk_model.specs.laws.Moments.{goes_on}
 use Rattle.checkpoint.proofs.keeper.Keeper.recover.Goals as goal
 use Rattle.device_image.specs.laws.Counted.{remembers_none}
 use Rattle.std.proofs.lemmas.Bool.Decides.{nat_tests}
+
+-- an area in which a gate has another place than the first takes two headers
+two_headers : (used : ℕ) → 0 < used → headers_at used ≡ 2
+two_headers zero some = absurd (omega (arith, some))
+two_headers (suc place) some = refl
+
+some_is : (n : ℕ) → false ≡ (n == 0) → 0 < n
+some_is n is = grind (arith, nat_tests)
 
 pub returns-in_err-rotate-clause-any_moment : goal.returns-in_err-rotate-clause-any_moment
 returns-in_err-rotate-clause-any_moment g c honest image number keeps =
@@ -35,6 +43,51 @@ returns-clause-any_moment g c honest image number keeps =
     let first_kept = first.kept honest image number keeps in
     goes_on (goes_on (first.any_moment honest image number keeps) (second.any_moment first_honest image number first_kept) (λ content stands. stands))
     (c.end_checkpoint.ensures.any_moment (second.honest.1 first_honest) image number (keeps_begun c.end_begun.new.self c.rotate.new.self _ _ image number first_kept (ap (λ (k : KeeperState g.row.D.Denot). k.count) second.ok) (second.held first_honest))) (λ content stands. stands)
+
+pub returns-in_err-end_begun-clause-headers : goal.returns-in_err-end_begun-clause-headers
+returns-in_err-end_begun-clause-headers g c honest image number keeps =
+    let told = c.in_err-end_begun.ensures.headers_err honest image number keeps in
+    (told.0, omega (arith, told.1), told.2)
+
+pub returns-then-is_empty-clause-headers : goal.returns-then-is_empty-clause-headers
+returns-then-is_empty-clause-headers g c honest image number keeps =
+    (length c.args.self.now.turned, omega arith, c.in_ok-end_begun.ensures.headers_ok honest image number keeps)
+
+pub returns-in_err-rotate-clause-headers : goal.returns-in_err-rotate-clause-headers
+returns-in_err-rotate-clause-headers g c honest image number keeps =
+    let first = c.in_ok-end_begun.ensures in
+    let old = c.args.self.now in
+    let mid = c.end_begun.new.self in
+    let some = some_is mid.used (sym c.if-is_empty.false ∙ c.is_empty.ensures.empty) in
+    let two = two_headers old.used (subst (λ (n : ℕ). 0 < n) first.used some) in (
+      suc (length old.turned),
+      omega (arith, two),
+      (mid.disk, first.headers_ok honest image number keeps, step_next old mid (length old.turned) _ _ first.sizes first.generation (c.in_err-rotate.ensures.header (first.honest.1 honest) image number (first.kept honest image number keeps))),
+    )
+
+pub returns-clause-headers : goal.returns-clause-headers
+returns-clause-headers g c honest image number keeps =
+    let first = c.in_ok-end_begun.ensures in
+    let second = c.in_ok-rotate.ensures in
+    let old = c.args.self.now in
+    let mid = c.end_begun.new.self in
+    let turned = c.rotate.new.self in
+    let first_honest = first.honest.1 honest in
+    let first_kept = first.kept honest image number keeps in
+    let some = some_is mid.used (sym c.if-is_empty.false ∙ c.is_empty.ensures.empty) in
+    let two = two_headers old.used (subst (λ (n : ℕ). 0 < n) first.used some) in
+    let more = ap (λ (k : KeeperState g.row.D.Denot). k.generation) second.ok in
+    let so_far = first.generation in
+    let number_is : turned.generation ≡ old.generation + suc (length old.turned) = omega (arith, more, so_far) in (
+      suc (suc (length old.turned)),
+      omega (arith, two),
+      (
+        turned.disk,
+        (mid.disk, first.headers_ok honest image number keeps, step_next old mid (length old.turned) _ _ first.sizes first.generation (second.header first_honest image number first_kept)),
+        step_next old turned (suc (length old.turned)) _ _ (ap (λ (k : KeeperState g.row.D.Denot). k.geometry) second.ok ∙ first.sizes) number_is
+            (c.end_checkpoint.ensures.header (second.honest.1 first_honest) image number (keeps_begun mid turned _ _ image number first_kept (ap (λ (k : KeeperState g.row.D.Denot). k.count) second.ok) (second.held first_honest))),
+      ),
+    )
 
 pub returns-clause-kept : goal.returns-clause-kept
 returns-clause-kept g c honest image number keeps =
@@ -225,14 +278,6 @@ returns-then-is_empty-clause-any_moment g c =
 pub returns-then-is_empty-clause-sizes : goal.returns-then-is_empty-clause-sizes
 returns-then-is_empty-clause-sizes g c =
     c.in_ok-end_begun.ensures.sizes
-
--- an area in which a gate has another place than the first takes two headers
-two_headers : (used : ℕ) → 0 < used → headers_at used ≡ 2
-two_headers zero some = absurd (omega (arith, some))
-two_headers (suc place) some = refl
-
-some_is : (n : ℕ) → false ≡ (n == 0) → 0 < n
-some_is n is = grind (arith, nat_tests)
 
 pub returns-in_err-end_begun-clause-generation : goal.returns-in_err-end_begun-clause-generation
 returns-in_err-end_begun-clause-generation g c =

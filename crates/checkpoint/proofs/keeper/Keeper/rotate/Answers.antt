@@ -23,6 +23,8 @@ use Rattle.device_image.specs.Remembers.{Remembers, TellOf}
 use Rattle.device_image.specs.Stands.{StandsFor}
 use Rattle.device_image.specs.laws.CheckpointBounds.{plan_left}
 use Rattle.device_image.specs.laws.Kept.{kept_content}
+use Rattle.checkpoint.specs.Headers.{HasHeaderOrNext}
+use Rattle.checkpoint.proofs.HeaderLeft.{header_left, header_turns}
 use Rattle.checkpoint.specs.Keeper.{AreSized, IsSized, faults_by, plans_of, refused_by}
 use Rattle.checkpoint.specs.Steps.{IsRotateTime, IsStepFault, phase_with, rotated_by}
 use Rattle.checkpoint.specs.declared.fault.KeeperFault.{KeeperFault}
@@ -177,6 +179,7 @@ returns-then-self g c =
       phase = λ commands remembers. tt;
       held = λ honest base fronts last holds. tt;
       any_moment = λ honest image number keeps. begins (g.met.D.Disk.sound c.args.self.now.disk honest) (λ content left. kept_content _ _ image number keeps content left);
+      header = λ honest image number keeps. begins (g.met.D.Disk.sound c.args.self.now.disk honest) (λ content left. inl (header_left _ _ image number keeps content left));
     }
 
 pub returns-then-not-has_spare_area : goal.returns-then-not-has_spare_area
@@ -198,6 +201,7 @@ returns-then-not-has_spare_area g c =
       phase = λ commands remembers. tt;
       held = λ honest base fronts last holds. tt;
       any_moment = λ honest image number keeps. begins (g.met.D.Disk.sound c.args.self.now.disk honest) (λ content left. kept_content _ _ image number keeps content left);
+      header = λ honest image number keeps. begins (g.met.D.Disk.sound c.args.self.now.disk honest) (λ content left. inl (header_left _ _ image number keeps content left));
     }
 
 pub returns-in_default : goal.returns-in_default
@@ -220,6 +224,7 @@ returns-in_default g c =
       phase = λ commands remembers. tt;
       held = λ honest base fronts last holds. tt;
       any_moment = λ honest image number keeps. begins (g.met.D.Disk.sound c.args.self.now.disk honest) (λ content left. kept_content _ _ image number keeps content left);
+      header = λ honest image number keeps. begins (g.met.D.Disk.sound c.args.self.now.disk honest) (λ content left. inl (header_left _ _ image number keeps content left));
     }
 
 pub returns-in-Ok : goal.returns-in-Ok
@@ -352,6 +357,16 @@ returns-in-Ok g c =
           (comes_next _ before image number inside sound c.in-Some.header header_is room from from_is))
           (rotate_left _ before image number inside sound c.in-Some.header header_is room from from_is))
           honest keeps;
+      header = λ honest image number keeps.
+          subst (λ (k : KeeperState g.row.D.Denot). g.D.Disk.honest k.disk → Keeps k (g.D.Disk.state k.disk) image number → LeavesOnly (g.D.Disk.state k.disk) (g.D.Disk.state c.begin_turn.new.disk) (HasHeaderOrNext k.geometry k.generation)) c.self.view_is
+          (λ trusted inside.
+          let before = g.D.Disk.state c.self.inside.disk in
+          let sound = g.met.D.Disk.sound c.self.inside.disk trusted in
+          weakens (c.begin_turn.ensures.any_moment trusted inside.steady (slots_synced _ before image number inside sound)
+          (from_above _ before image number inside sound c.in-Some.header header_is room from from_is) inside_header (current_held _ before image number inside sound)
+          (comes_next _ before image number inside sound c.in-Some.header header_is room from from_is))
+          (header_turns _ before image number inside sound c.in-Some.header header_is.generation header_is.geometry from))
+          honest keeps;
     }
 
 pub returns-in-Err : goal.returns-in-Err
@@ -415,6 +430,24 @@ returns-in-Err g c =
           (comes_next _ before image number inside sound c.in-Some.header header_is room from from_is))
           (rotate_left _ before image number inside sound c.in-Some.header header_is room from from_is))
           honest keeps;
+      header = λ honest image number keeps.
+          subst (λ (k : KeeperState g.row.D.Denot). g.D.Disk.honest k.disk → Keeps k (g.D.Disk.state k.disk) image number → LeavesOnly (g.D.Disk.state k.disk) (g.D.Disk.state c.begin_turn.new.disk) (HasHeaderOrNext k.geometry k.generation)) c.self.view_is
+          (λ trusted inside.
+          let before = g.D.Disk.state c.self.inside.disk in
+          let sound = g.met.D.Disk.sound c.self.inside.disk trusted in
+          let inside_header = c.self.inside.header in
+          let header_is : IsRenewed inside_header (with_next inside_header) c.in-Some.header =
+          subst (λ (change : HeaderChange). IsRenewed inside_header change c.in-Some.header) (c.with_next.ensures ∙ ap (λ (k : KeeperState g.row.D.Denot). with_next k.memory.header) (sym c.self.view_is)) c.in-Some.ensures.some in
+          let room : inside_header.in_front + 1 < areas_in inside_header.geometry =
+          subst (λ (k : KeeperState g.row.D.Denot). k.memory.header.in_front + 1 < areas_in k.memory.header.geometry) (sym c.self.view_is) (c.if-not-has_spare_area.ensures.room refl) in
+          let from = c.next_area-next.result.from in
+          let from_is : from ≡ area_at inside_header.geometry (behind (areas_in inside_header.geometry) (suc inside_header.in_front) inside_header.first_area) =
+          ap (λ (a : AreaState). a.from) c.next_area-next.ensures in
+          weakens (c.begin_turn.ensures.any_moment trusted inside.steady (slots_synced _ before image number inside sound)
+          (from_above _ before image number inside sound c.in-Some.header header_is room from from_is) inside_header (current_held _ before image number inside sound)
+          (comes_next _ before image number inside sound c.in-Some.header header_is room from from_is))
+          (header_turns _ before image number inside sound c.in-Some.header header_is.generation header_is.geometry from))
+          honest keeps;
     }
 
 pub with_next-requires : goal.with_next-requires
@@ -464,6 +497,7 @@ returns-in_err-touches g c =
       phase = λ commands remembers. IfOk-from_err c.from_residual.result _ c.from_residual.ensures.0;
       held = λ honest base fronts last_commands holds. IfOk-from_err c.from_residual.result _ c.from_residual.ensures.0;
       any_moment = λ honest image number keeps. begins (g.met.D.Disk.sound c.args.self.now.disk honest) (λ content left. kept_content _ _ image number keeps content left);
+      header = λ honest image number keeps. begins (g.met.D.Disk.sound c.args.self.now.disk honest) (λ content left. inl (header_left _ _ image number keeps content left));
     }
 
 pub returns-in_err-reserve : goal.returns-in_err-reserve
@@ -515,4 +549,8 @@ returns-in_err-reserve g c =
           let same = ap (λ (k : KeeperState g.row.D.Denot). k.disk) (sym c.self.view_is) in
           subst (λ (disk : g.row.D.Denot). LeavesOnly (g.D.Disk.state c.args.self.now.disk) (g.D.Disk.state disk) (λ content. StandsFor content image number)) same
           (begins (g.met.D.Disk.sound c.args.self.now.disk honest) (λ content left. kept_content _ _ image number keeps content left));
+      header = λ honest image number keeps.
+          let same = ap (λ (k : KeeperState g.row.D.Denot). k.disk) (sym c.self.view_is) in
+          subst (λ (disk : g.row.D.Denot). LeavesOnly (g.D.Disk.state c.args.self.now.disk) (g.D.Disk.state disk) (HasHeaderOrNext c.args.self.now.geometry c.args.self.now.generation)) same
+          (begins (g.met.D.Disk.sound c.args.self.now.disk honest) (λ content left. inl (header_left _ _ image number keeps content left)));
     }

@@ -4,9 +4,9 @@ use Rattle.disk_model.specs.laws.Moments.{goes_on}
 use Rattle.device_image.specs.Keeps.{Keeps}
 use Rattle.device_image.specs.Stands.{StandsFor}
 use Rattle.checkpoint.specs.Opening.{IsFixedOrNot}
-use Rattle.checkpoint.specs.Upgrade.{IsUpgradeRefused}
+use Rattle.checkpoint.specs.Upgrade.{HasEitherLayout, IsUpgradeRefused}
 use Rattle.checkpoint.specs.declared.fault.KeeperFault.TheVariants.{AreaSmall, NumbersFull}
-use Rattle.checkpoint.proofs.Reopened.{recovers}
+use Rattle.checkpoint.proofs.Reopened.{changes}
 use Rattle.checkpoint.proofs.Upgrading.{device_left, full_areas, layout_passes, numbers_not_device, opening_passes, refused_layout, refused_still, refused_upgrade, small_areas, small_not_device}
 use Rattle.checkpoint.proofs.keeper.Keeper.upgrade.Goals as goal
 
@@ -35,7 +35,7 @@ returns-in-Ok-change_layout-clause-steps g c =
                 subst (λ (n : ℕ). Keeps new (g.D.Disk.state new.disk) image n) (sym kept.counted) kept,
                 call.ok.base,
               );
-              crash = recovers (g.D.Disk.state c.args.disk) g.D.Disk.state found.0 keeper (Ok new) image keeper.count found.1.outcome.1 found.1.crash (call.any_moment trusted image keeper.count found.1.outcome.2);
+              crash = changes (g.D.Disk.state c.args.disk) g.D.Disk.state found.0 keeper (Ok new) image keeper.count found.1.outcome.1 found.1.crash (call.any_moment trusted image keeper.count found.1.outcome.2);
             },
           );
       at_rest = opened.at_rest;
@@ -45,6 +45,9 @@ returns-in-Ok-change_layout-clause-steps g c =
         λ one enough last. let no = call.full.1 (one, enough, last) in cc,
         λ one enough some. call.changed one,
       );
+      headers = λ honest.
+          let found = opened.found honest in
+          call.header (opened.honest.1 honest) found.1.outcome.0 keeper.count found.1.outcome.2;
     }
 
 pub returns-in-Ok-change_layout-clause-same : goal.returns-in-Ok-change_layout-clause-same
@@ -87,7 +90,7 @@ returns-in-Err-change_layout-clause-steps g c =
                   (λ is. full_areas g.D.Disk.state fault keeper new image found.0 is call.unchanged (call.full.0 (ap Err is)) stands keeps)
                   (λ is. small_areas g.D.Disk.state fault keeper new image found.0 is call.unchanged (call.small.0 (ap Err is)) opened.recovered stands keeps));
               crash = subst (λ (disk : g.row.D.Denot). IsFixedOrNot before g.D.Disk.state (Err (fault, disk)) found.0) (sym c.into_disk.ensures)
-                  (recovers before g.D.Disk.state found.0 keeper (Err (fault, new.disk)) image keeper.count stands found.1.crash (call.any_moment trusted image keeper.count keeps));
+                  (changes before g.D.Disk.state found.0 keeper (Err (fault, new.disk)) image keeper.count stands found.1.crash (call.any_moment trusted image keeper.count keeps));
             },
           );
       at_rest = opened.at_rest;
@@ -97,6 +100,10 @@ returns-in-Err-change_layout-clause-steps g c =
         λ one enough last. refused_still fault NumbersFull keeper new c.into_disk.result (call.full.1 (one, enough, last)) numbers_not_device call.unchanged c.into_disk.ensures,
         λ one enough some. device_left fault call.only (λ is. some (call.full.0 (ap Err is)).2) (λ is. let few = (call.small.0 (ap Err is)).1 in absurd (omega (arith, few, enough))),
       );
+      headers = λ honest.
+          let found = opened.found honest in
+          subst (λ (disk : g.row.D.Denot). LeavesOnly (g.D.Disk.state keeper.disk) (g.D.Disk.state disk) (HasEitherLayout keeper)) (sym c.into_disk.ensures)
+          (call.header (opened.honest.1 honest) found.1.outcome.0 keeper.count found.1.outcome.2);
     }
 
 pub returns-in-Err-change_layout-clause-passing : goal.returns-in-Err-change_layout-clause-passing
@@ -126,6 +133,7 @@ returns-in-Err-clause-steps g c = record {
       );
   at_rest = c.in-Err.ensures.at_rest;
   changed = refl;
+  headers = λ honest. tt;
 }
 
 pub returns-in-Err-clause-passing : goal.returns-in-Err-clause-passing

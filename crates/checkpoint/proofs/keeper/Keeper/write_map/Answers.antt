@@ -20,6 +20,8 @@ use Rattle.device_image.specs.Keeper.{KeeperState, PlanState, Memory, last_turne
 use Rattle.device_image.specs.Keeps.{Keeps}
 use Rattle.device_image.specs.Stands.{StandsFor}
 use Rattle.device_image.specs.laws.Kept.{kept_content}
+use Rattle.checkpoint.specs.Headers.{HasHeader}
+use Rattle.checkpoint.proofs.HeaderLeft.{header_left, header_torn}
 use Rattle.image_model.specs.Geometry.{map_bytes_of}
 use Rattle.regions.specs.Layout.{map_at}
 use Rattle.device_image.specs.inner.Copied.{IsMapStored}
@@ -178,6 +180,7 @@ returns-then-self g c =
       remembered = λ commands remembers. tt;
       held = λ honest base fronts last holds. tt;
       any_moment = λ honest image number keeps. begins (g.met.D.Disk.sound c.args.self.now.disk honest) (λ content left. kept_content _ _ image number keeps content left);
+      header = λ honest image number keeps. begins (g.met.D.Disk.sound c.args.self.now.disk honest) (λ content left. header_left _ _ image number keeps content left);
     }
 
 pub returns-in_default : goal.returns-in_default
@@ -200,6 +203,9 @@ returns-in_default g c =
       any_moment = λ honest image number keeps.
           subst (λ (disk : g.row.D.Denot). LeavesOnly (g.D.Disk.state c.args.self.now.disk) (g.D.Disk.state disk) (λ content. StandsFor content image number)) (sym same)
           (begins (g.met.D.Disk.sound c.args.self.now.disk honest) (λ content left. kept_content _ _ image number keeps content left));
+      header = λ honest image number keeps.
+          subst (λ (disk : g.row.D.Denot). LeavesOnly (g.D.Disk.state c.args.self.now.disk) (g.D.Disk.state disk) (HasHeader c.args.self.now.geometry c.args.self.now.generation)) (sym same)
+          (begins (g.met.D.Disk.sound c.args.self.now.disk honest) (λ content left. header_left _ _ image number keeps content left));
     }
 
 pub returns-then-left-gt0 : goal.returns-then-left-gt0
@@ -238,6 +244,9 @@ returns-then-left-gt0 g c =
       any_moment = λ honest image number keeps.
           subst (λ (disk : g.row.D.Denot). LeavesOnly (g.D.Disk.state c.args.self.now.disk) (g.D.Disk.state disk) (λ content. StandsFor content image number)) (sym same)
           (begins (g.met.D.Disk.sound c.args.self.now.disk honest) (λ content left. kept_content _ _ image number keeps content left));
+      header = λ honest image number keeps.
+          subst (λ (disk : g.row.D.Denot). LeavesOnly (g.D.Disk.state c.args.self.now.disk) (g.D.Disk.state disk) (HasHeader c.args.self.now.geometry c.args.self.now.generation)) (sym same)
+          (begins (g.met.D.Disk.sound c.args.self.now.disk honest) (λ content left. header_left _ _ image number keeps content left));
     }
 
 pub returns-then-is_mapped : goal.returns-then-is_mapped
@@ -276,6 +285,9 @@ returns-then-is_mapped g c =
       any_moment = λ honest image number keeps.
           subst (λ (disk : g.row.D.Denot). LeavesOnly (g.D.Disk.state c.args.self.now.disk) (g.D.Disk.state disk) (λ content. StandsFor content image number)) (sym same)
           (begins (g.met.D.Disk.sound c.args.self.now.disk honest) (λ content left. kept_content _ _ image number keeps content left));
+      header = λ honest image number keeps.
+          subst (λ (disk : g.row.D.Denot). LeavesOnly (g.D.Disk.state c.args.self.now.disk) (g.D.Disk.state disk) (HasHeader c.args.self.now.geometry c.args.self.now.generation)) (sym same)
+          (begins (g.met.D.Disk.sound c.args.self.now.disk honest) (λ content left. header_left _ _ image number keeps content left));
     }
 
 pub returns-in_err-map : goal.returns-in_err-map
@@ -321,6 +333,10 @@ returns-in_err-map g c =
           let same = ap (λ (k : KeeperState g.row.D.Denot). k.disk) (sym c.self.view_is) in
           subst (λ (disk : g.row.D.Denot). LeavesOnly (g.D.Disk.state c.args.self.now.disk) (g.D.Disk.state disk) (λ content. StandsFor content image number)) same
           (begins (g.met.D.Disk.sound c.args.self.now.disk honest) (λ content left. kept_content _ _ image number keeps content left));
+      header = λ honest image number keeps.
+          let same = ap (λ (k : KeeperState g.row.D.Denot). k.disk) (sym c.self.view_is) in
+          subst (λ (disk : g.row.D.Denot). LeavesOnly (g.D.Disk.state c.args.self.now.disk) (g.D.Disk.state disk) (HasHeader c.args.self.now.geometry c.args.self.now.generation)) same
+          (begins (g.met.D.Disk.sound c.args.self.now.disk honest) (λ content left. header_left _ _ image number keeps content left));
     }
 
 pub returns-in-Ok : goal.returns-in-Ok
@@ -418,6 +434,10 @@ returns-in-Ok g c = record {
       weakens (c.store_map.ensures.any_moment sound)
       (map_left _ (g.D.Disk.state c.self.inside.disk) image number inside _ _ (place_there geometry (search rules) (ap (λ (h : Header). other_of h.map_slot) inside.headed)) (ap (λ (size : Geometry). map_bytes_of size.blocks) geometry)))
       honest keeps;
+  header = λ honest image number keeps.
+      subst (λ (k : KeeperState g.row.D.Denot). g.D.Disk.honest k.disk → Keeps k (g.D.Disk.state k.disk) image number → LeavesOnly (g.D.Disk.state k.disk) (g.D.Disk.state c.store_map.new.disk) (HasHeader k.geometry k.generation)) c.self.view_is
+      (λ sound inside. weakens (c.store_map.ensures.any_moment sound) (header_torn _ (g.D.Disk.state c.self.inside.disk) image number inside _ _ (omega arith)))
+      honest keeps;
 }
 
 pub returns-in-Err : goal.returns-in-Err
@@ -472,5 +492,9 @@ returns-in-Err g c = record {
       let geometry : c.of.result.geometry ≡ inside.stands.header.geometry = c.of.ensures ∙ inside.sizes in
       weakens (c.store_map.ensures.any_moment sound)
       (map_left _ (g.D.Disk.state c.self.inside.disk) image number inside _ _ (place_there geometry (search rules) (ap (λ (h : Header). other_of h.map_slot) inside.headed)) (ap (λ (size : Geometry). map_bytes_of size.blocks) geometry)))
+      honest keeps;
+  header = λ honest image number keeps.
+      subst (λ (k : KeeperState g.row.D.Denot). g.D.Disk.honest k.disk → Keeps k (g.D.Disk.state k.disk) image number → LeavesOnly (g.D.Disk.state k.disk) (g.D.Disk.state c.store_map.new.disk) (HasHeader k.geometry k.generation)) c.self.view_is
+      (λ sound inside. weakens (c.store_map.ensures.any_moment sound) (header_torn _ (g.D.Disk.state c.self.inside.disk) image number inside _ _ (omega arith)))
       honest keeps;
 }

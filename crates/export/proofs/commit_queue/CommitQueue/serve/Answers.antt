@@ -1,9 +1,12 @@
-use Rattle.std.proofs.Common.{refl}
+use Rattle.std.proofs.Common.{◌<◌, ◌≤◌, refl, subst, sym}
+use Rattle.std.specs.List.{sum}
+use Rattle.order_book.specs.Order.{OrderState}
+use Rattle.export.proofs.Bounded.{here_bounded}
 use Rattle.export.proofs.Fits.{here_fits, writes}
 use Rattle.export.proofs.Submits.{served_for}
 use Rattle.export.proofs.Told.{shown_for, told}
 use Rattle.shared_store.specs.Orders.{Trusting}
-use Rattle.shared_store.specs.laws.Trust.{trusting}
+use Rattle.shared_store.specs.laws.Trust.{anyway, trusting}
 use Rattle.export.proofs.commit_queue.CommitQueue.serve.Goals as goal
 use Rattle.export_model.specs.Verdict.{verdict}
 
@@ -25,3 +28,13 @@ returns-clause-tells g c =
     let order = c.serve.new.self in
     trusting g.B.BoardName.opening g.B.ImageName.image g.B.ImageName.vouches g.B.ImageName.trusted (told g.B.ImageName.image c.args.request.head order.history order.mark c.serve.new.pass c.show.new.pass c.in_ok-served.served c.show.ensures.pass)
     c.in_ok-served.ensures.tells
+
+pub returns-clause-bounded : goal.returns-clause-bounded
+returns-clause-bounded g c =
+    let request = c.args.request in let terms = c.args.terms in let queue = c.args.self.now in
+    subst (λ (o : OrderState). queue.order.mark < o.mark → sum o.bodies ≤ queue.most_pending) (sym c.show.ensures.order)
+    (here_bounded request terms.geometry terms.mode queue.order c.serve.new.self c.in_ok-served.served queue.most_pending (c.exceeds_loss.ensures c.if-exceeds_loss.false)
+    (verdict request.head terms.geometry terms.flags) (writes request terms.geometry terms.flags) c.in_ok-served.ensures.serves)
+
+pub returns-then-exceeds_loss-clause-tells : goal.returns-then-exceeds_loss-clause-tells
+returns-then-exceeds_loss-clause-tells g c = anyway g.B.BoardName.opening g.B.ImageName.image g.B.ImageName.vouches g.B.ImageName.trusted tt

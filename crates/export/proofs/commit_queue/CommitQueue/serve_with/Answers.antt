@@ -1,9 +1,12 @@
-use Rattle.std.proofs.Common.{◌∙◌, sym}
+use Rattle.std.proofs.Common.{◌∙◌, ◌<◌, ◌≤◌, subst, sym}
+use Rattle.std.specs.List.{sum}
+use Rattle.order_book.specs.Order.{OrderState}
+use Rattle.export.proofs.Bounded.{with_bounded}
 use Rattle.export.proofs.Fits.{with_fits, writes}
 use Rattle.export.proofs.Submits.{served_with}
 use Rattle.export.proofs.Told.{shown_for, told}
 use Rattle.shared_store.specs.Orders.{Trusting}
-use Rattle.shared_store.specs.laws.Trust.{trusting}
+use Rattle.shared_store.specs.laws.Trust.{anyway, trusting}
 use Rattle.export.proofs.commit_queue.CommitQueue.serve_with.Goals as goal
 
 pub returns-clause-served : goal.returns-clause-served
@@ -26,3 +29,14 @@ returns-clause-tells g c =
     let order = c.serve_with-served.new.self in
     trusting g.B.BoardName.opening g.B.ImageName.image g.B.ImageName.vouches g.B.ImageName.trusted (told g.B.ImageName.image c.args.request.head order.history order.mark c.serve_with-served.new.pass c.show.new.pass c.serve_with-served.result c.show.ensures.pass)
     c.serve_with-served.ensures.tells
+
+pub returns-clause-bounded : goal.returns-clause-bounded
+returns-clause-bounded g c =
+    let (given, given_is, by) = c.serve_with-served.ensures.serves in
+    let request = c.args.request in let terms = c.args.terms in let queue = c.args.self.now in
+    subst (λ (o : OrderState). queue.order.mark < o.mark → sum o.bodies ≤ queue.most_pending) (sym c.show.ensures.order)
+    (with_bounded request terms.geometry terms.mode queue.order c.serve_with-served.new.self c.serve_with-served.result queue.most_pending (c.exceeds_loss.ensures c.if-exceeds_loss.false)
+    g.D.Disk.state g.D.Disk.faults g.D.Disk.honest c.args.keeper.now.keeper c.serve_with-served.new.keeper.keeper given (λ passes. writes request terms.geometry terms.flags (sym given_is ∙ passes)) by)
+
+pub returns-then-exceeds_loss-clause-tells : goal.returns-then-exceeds_loss-clause-tells
+returns-then-exceeds_loss-clause-tells g c = anyway g.B.BoardName.opening g.B.ImageName.image g.B.ImageName.vouches g.B.ImageName.trusted tt

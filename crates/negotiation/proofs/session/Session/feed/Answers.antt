@@ -15,14 +15,14 @@ use Rattle.negotiation.proofs.session.Session.feed.Goals as goal
 
 pub returns-in_err-stage-clause-session : goal.returns-in_err-stage-clause-session
 returns-in_err-stage-clause-session c =
-    let size = c.self.inside.size in
+    let offer = c.self.inside.offer in
     let agreed = c.self.inside.agreed in
     let piece = c.args.piece.now in
     let before = c.args.out.now.items in
     let after = c.greet.new.out.items in
-    let old = session_at size agreed (standing_of c.replace-stage.result) in
-    let new = session_at size agreed (standing_of c.replace-stage.new.dest) in
-    let same : old ≡ c.args.self.now = ap (λ (stage : Stage). session_at size agreed (standing_of stage)) c.replace-stage.ensures.value ∙ c.self.view_is in
+    let old = session_at offer agreed (standing_of c.replace-stage.result) in
+    let new = session_at offer agreed (standing_of c.replace-stage.new.dest) in
+    let same : old ≡ c.args.self.now = ap (λ (stage : Stage). session_at offer agreed (standing_of stage)) c.replace-stage.ensures.value ∙ c.self.view_is in
     let end : end_of new.standing ≡ Some NoMemory = ap (λ (stage : Stage). end_of (standing_of stage)) c.replace-stage.ensures.after in
     subst (λ (s : SessionState). Feeds s piece before after (handed c.from_residual.result) new) same
     (subst (λ (r : List Message). Feeds old piece before after r new) (sym (handed_error c.from_residual.result c.from_residual.ensures.0))
@@ -30,19 +30,19 @@ returns-in_err-stage-clause-session c =
 
 pub returns-in_err-talk-clause-session : goal.returns-in_err-talk-clause-session
 returns-in_err-talk-clause-session c =
-    let size = c.self.inside.size in
+    let offer = c.self.inside.offer in
     let agreed = c.self.inside.agreed in
     let piece = c.args.piece.now in
     let before = c.args.out.now.items in
     let after = c.negotiate.new.out.items in
-    let old = session_at size agreed (standing_of c.replace-stage.result) in
-    let new = session_at size agreed (standing_of c.replace-stage.new.dest) in
-    let same : old ≡ c.args.self.now = ap (λ (stage : Stage). session_at size agreed (standing_of stage)) c.replace-stage.ensures.value ∙ c.self.view_is in
+    let old = session_at offer agreed (standing_of c.replace-stage.result) in
+    let new = session_at offer agreed (standing_of c.replace-stage.new.dest) in
+    let same : old ≡ c.args.self.now = ap (λ (stage : Stage). session_at offer agreed (standing_of stage)) c.replace-stage.ensures.value ∙ c.self.view_is in
     let end : end_of new.standing ≡ Some NoMemory = ap (λ (stage : Stage). end_of (standing_of stage)) c.replace-stage.ensures.after in
     let cut = c.in_err-talk.ensures.err in
     subst (λ (s : SessionState). Feeds s piece before after (handed c.from_residual-in_err-talk.result) new) same
     (subst (λ (r : List Message). Feeds old piece before after r new) (sym (handed_error c.from_residual-in_err-talk.result c.from_residual-in_err-talk.ensures.0))
-    (cut_short size agreed (standing_of c.replace-stage.result) (standing_of c.in_ok-stage.stage) before c.greet.new.out.items after piece cut.0 cut.1 c.in_ok-stage.ensures.greets cut.2 cut.3
+    (cut_short offer agreed (standing_of c.replace-stage.result) (standing_of c.in_ok-stage.stage) before c.greet.new.out.items after piece cut.0 cut.1 c.in_ok-stage.ensures.greets cut.2 cut.3
     (λ b.
     let kept = greets_behind (standing_of c.replace-stage.result) (standing_of c.in_ok-stage.stage) before c.greet.new.out.items c.in_ok-stage.ensures.greets b in
     (c.in_err-talk.ensures.still (behind_idle c.in_ok-stage.stage (subst IsBehind (sym kept.0) b))).0)
@@ -57,7 +57,7 @@ all_written {old} {new} {piece} {before} {after} {later} {requests} feeds same =
 
 pub returns-clause-session : goal.returns-clause-session
 returns-clause-session c =
-    let size = c.self.inside.size in
+    let offer = c.self.inside.offer in
     let agreed = c.self.inside.agreed in
     let piece = c.args.piece.now in
     let before = c.args.out.now.items in
@@ -65,28 +65,28 @@ returns-clause-session c =
     let talk = c.in_ok-talk.talk in
     let requests = handed c.hand_out-stage.result.1 in
     let new = standing_of c.hand_out-stage.result.0 in
-    let old = session_at size agreed (standing_of c.replace-stage.result) in
-    let same : old ≡ c.args.self.now = ap (λ (stage : Stage). session_at size agreed (standing_of stage)) c.replace-stage.ensures.value ∙ c.self.view_is in
+    let old = session_at offer agreed (standing_of c.replace-stage.result) in
+    let same : old ≡ c.args.self.now = ap (λ (stage : Stage). session_at offer agreed (standing_of stage)) c.replace-stage.ensures.value ∙ c.self.view_is in
     let hands : Hands (standing_of talk.stage) c.in_ok-talk.rest.now requests new = rest_handed c.hand_out-stage.ensures.hands (search rules) in
-    all_written (subst (λ (s : SessionState). Feeds s piece before after requests (session_at size talk.agreed new)) same
+    all_written (subst (λ (s : SessionState). Feeds s piece before after requests (session_at offer talk.agreed new)) same
     (elim (behind_or (standing_of c.replace-stage.result)) [
       | inl b ↦
           let kept = greets_behind (standing_of c.replace-stage.result) (standing_of c.in_ok-stage.stage) before c.greet.new.out.items c.in_ok-stage.ensures.greets b in
           let idle = c.in_ok-talk.ensures.still (behind_idle c.in_ok-stage.stage (subst IsBehind (sym kept.0) b)) in
           let stands : standing_of talk.stage ≡ standing_of c.replace-stage.result = ap (λ (t : Talk). standing_of t.stage) idle.0.0 ∙ kept.0 in
           let hands = subst (λ (s : Standing). Hands s piece requests new) stands (subst (λ (p : List ℕ). Hands (standing_of talk.stage) p requests new) idle.0.1 hands) in
-          subst (λ (f : Agreed). Feeds old piece before after requests (session_at size f new)) (sym (ap (λ (t : Talk). t.agreed) idle.0.0))
-          (fed_behind size agreed (standing_of c.replace-stage.result) new before after piece requests b (idle.1 ∙ kept.1) hands)
-      | inr not ↦ fed size agreed (standing_of c.replace-stage.result) (standing_of c.in_ok-stage.stage) before c.greet.new.out.items after piece c.in_ok-talk.rest.now talk
+          subst (λ (f : Agreed). Feeds old piece before after requests (session_at offer f new)) (sym (ap (λ (t : Talk). t.agreed) idle.0.0))
+          (fed_behind offer agreed (standing_of c.replace-stage.result) new before after piece requests b (idle.1 ∙ kept.1) hands)
+      | inr not ↦ fed offer agreed (standing_of c.replace-stage.result) (standing_of c.in_ok-stage.stage) before c.greet.new.out.items after piece c.in_ok-talk.rest.now talk
           c.in_ok-stage.ensures.greets c.in_ok-talk.ensures.sound c.in_ok-talk.ensures.runs not new requests hands
     ])) (search rules)
 
 pub returns-clause-again : goal.returns-clause-again
 returns-clause-again c = λ end is.
-    let size = c.self.inside.size in
+    let offer = c.self.inside.offer in
     let agreed = c.self.inside.agreed in
-    let old = session_at size agreed (standing_of c.replace-stage.result) in
-    let same : old ≡ c.args.self.now = ap (λ (stage : Stage). session_at size agreed (standing_of stage)) c.replace-stage.ensures.value ∙ c.self.view_is in
+    let old = session_at offer agreed (standing_of c.replace-stage.result) in
+    let same : old ≡ c.args.self.now = ap (λ (stage : Stage). session_at offer agreed (standing_of stage)) c.replace-stage.ensures.value ∙ c.self.view_is in
     let was : end_of (standing_of c.replace-stage.result) ≡ Some end = ap (λ (s : SessionState). end_of s.standing) same ∙ is in
     let kept = greets_ended (standing_of c.replace-stage.result) (standing_of c.in_ok-stage.stage) c.args.out.now.items c.greet.new.out.items end c.in_ok-stage.ensures.greets was in
     let still : end_of (standing_of c.in_ok-stage.stage) ≡ Some end = ap end_of kept ∙ was in
@@ -96,9 +96,9 @@ returns-clause-again c = λ end is.
 pub returns-clause-said : goal.returns-clause-said
 returns-clause-said c = said_behind c.hand_out-stage.result.0 c.hand_out-stage.ensures.sound
 
-pub returns-in_err-stage-clause-size : goal.returns-in_err-stage-clause-size
-returns-in_err-stage-clause-size c =
-    ap (λ (s : SessionState). s.size) c.self.view_is
+pub returns-in_err-stage-clause-offer : goal.returns-in_err-stage-clause-offer
+returns-in_err-stage-clause-offer c =
+    ap (λ (s : SessionState). s.offer) c.self.view_is
 
 pub returns-in_err-stage-clause-fault : goal.returns-in_err-stage-clause-fault
 returns-in_err-stage-clause-fault c =
@@ -124,9 +124,9 @@ pub returns-in_err-stage-clause-held : goal.returns-in_err-stage-clause-held
 returns-in_err-stage-clause-held c =
     subst (λ (stage : Stage). held_by (standing_of stage) < 28 + 1048576) (sym c.replace-stage.ensures.after) (omega arith)
 
-pub returns-in_err-talk-clause-size : goal.returns-in_err-talk-clause-size
-returns-in_err-talk-clause-size c =
-    ap (λ (s : SessionState). s.size) c.self.view_is
+pub returns-in_err-talk-clause-offer : goal.returns-in_err-talk-clause-offer
+returns-in_err-talk-clause-offer c =
+    ap (λ (s : SessionState). s.offer) c.self.view_is
 
 pub returns-in_err-talk-clause-fault : goal.returns-in_err-talk-clause-fault
 returns-in_err-talk-clause-fault c =
@@ -152,9 +152,9 @@ pub returns-in_err-talk-clause-held : goal.returns-in_err-talk-clause-held
 returns-in_err-talk-clause-held c =
     subst (λ (stage : Stage). held_by (standing_of stage) < 28 + 1048576) (sym c.replace-stage.ensures.after) (omega arith)
 
-pub returns-clause-size : goal.returns-clause-size
-returns-clause-size c =
-    ap (λ (s : SessionState). s.size) c.self.view_is
+pub returns-clause-offer : goal.returns-clause-offer
+returns-clause-offer c =
+    ap (λ (s : SessionState). s.offer) c.self.view_is
 
 pub returns-clause-fault : goal.returns-clause-fault
 returns-clause-fault c =

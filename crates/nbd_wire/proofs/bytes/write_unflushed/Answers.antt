@@ -1,7 +1,7 @@
 use Rattle.std.proofs.Common.{◌≡◌, ◌++◌, ◌∙◌, sym, ap, take, drop, List, ℕ, append_assoc}
 use Rattle.std.proofs.lemmas.List.{take-append-drop}
 use Rattle.nbd_wire.specs.laws.Bytes.{appends_on}
-use Rattle.nbd_wire.proofs.bytes.write_each.Goals as goal
+use Rattle.nbd_wire.proofs.bytes.write_unflushed.Goals as goal
 
 pub loop-rest-preserved : goal.loop-rest-preserved
 loop-rest-preserved g c =

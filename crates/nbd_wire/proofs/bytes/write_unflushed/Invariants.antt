@@ -1,6 +1,6 @@
 use Rattle.std.proofs.Common.{◌≡◌, ◌++◌, List, ℕ, length}
 use Rattle.std.specs.Io.KnownBytes.{Appends}
-use Rattle.nbd_wire.proofs.bytes.write_each.Given as goal
+use Rattle.nbd_wire.proofs.bytes.write_unflushed.Given as goal
 
 -- the first of the bytes are written, and the rest is left
 abbrev pub invariant-loop-rest : goal.invariant-loop-rest

@@ -1,0 +1,31 @@
+//! How much a power cut may take of what was answered: a write waits while more is pending than that.
+
+use crate::beside::ReadBeside;
+use crate::export::Export;
+use crate::name::ExportName;
+use disk_model::Disk;
+use std::rt::Clock;
+use std::sync::Wait;
+use std::time::Duration;
+
+impl<B: ExportName, D: Disk, H: ReadBeside> Export<B, D, H> {
+    /// From now on no write is accepted that could leave more than so many bytes of commands pending: it waits until some are stored.
+    pub fn limit_loss<R: Wait>(&self, rt: &R, most: u64) {
+        self.queue.lock(rt).limit_pending(most);
+    }
+
+    /// Has the flusher store what is pending, and waits, while the oldest pending command is older than this. It doesn't wait after a
+    /// device fault, or if memory for storing is refused for long. No contract speaks of it: it costs time alone.
+    pub fn wait_while_older<R: Wait + Clock>(&self, rt: &R, limit: Duration) {
+        let mut queue = self.queue.lock(rt);
+        for _ in rt.forever() {
+            if queue.stopped() || queue.cannot_store() || !queue.is_older_than(rt, limit) {
+                return;
+            }
+            queue.want_pending();
+            self.signals.work.notify_one();
+            queue = self.signals.settled.wait(rt, queue);
+        }
+        unreachable!()
+    }
+}
