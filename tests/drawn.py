@@ -71,8 +71,8 @@ class Image:
 class Script:
     """A script, what it has to print, and what the device then holds."""
 
-    def __init__(self, draws, blocks, area, most):
-        self.draws, self.blocks, self.most = draws, blocks, most
+    def __init__(self, draws, blocks, area, most, mode):
+        self.draws, self.blocks, self.most, self.mode = draws, blocks, most, mode
         self.lines, self.printed = [], []
         # The image with all commands, and with those that are stored.
         self.image = Image(blocks)
@@ -81,7 +81,7 @@ class Script:
         self.count = self.durable = self.base = 0
         # The blocks that a command which isn't in map and data wrote last.
         self.written = set()
-        self.line(f"format {blocks} {area} 512", "done")
+        self.line(f"format {blocks} {area} 512 {mode}".rstrip(), "done")
 
     def line(self, line, printed):
         self.lines.append(line)
@@ -140,8 +140,8 @@ class Script:
         self.printed.append(f"answer {connection} ok")
 
     def answered_stored(self, connection):
-        """The answer that waits until all is stored."""
-        if self.durable < self.count:
+        """The answer that waits until all is stored, but in ordered."""
+        if self.durable < self.count and self.mode != "ordered":
             self.printed.append("held")
             self.store()
             self.lines.append(f"answer {connection}")
@@ -291,25 +291,25 @@ def run(words, given):
     return subprocess.run([NBDJ, *words], input=given, capture_output=True, timeout=120)
 
 
-def check_script(seed, blocks, area, most, turns):
-    script = Script(random.Random(seed), blocks, area, most)
+def check_script(seed, mode, blocks, area, most, turns):
+    script = Script(random.Random(seed), blocks, area, most, mode)
     for _ in range(turns):
         script.turn()
     ran = run(["rehearse"], "".join(f"{it}\n" for it in script.lines).encode())
     printed = ran.stdout.decode().splitlines()
-    name = f"the script of seed {seed} over {blocks} blocks"
+    name = f"the script of seed {seed} over {blocks} blocks {mode}".rstrip()
     check(f"how {name} ends", (0, b"", len(script.printed)), (ran.returncode, ran.stderr, len(printed)))
     differ = [place for place, (wanted, got) in enumerate(zip(script.printed, printed)) if wanted != got][:1]
     check(f"what {name} prints", [], [(place, script.printed[place], printed[place]) for place in differ])
 
 
-def check_sessions(folder, seed):
+def check_sessions(folder, seed, *words):
     session, image = Session(random.Random(seed)), os.path.join(folder, f"{seed}.img")
     run(["format", image, "--blocks", str(SESSION_BLOCKS), "--area", str(2 * MIB)], b"").check_returncode()
     for number in range(SESSIONS):
         stream, replies = session.talk()
-        ran = run(["pipe", image], stream)
-        name = f"session {number} of seed {seed}"
+        ran = run(["pipe", image, *words], stream)
+        name = " ".join([f"session {number} of seed {seed}", *words])
         check(f"how {name} ends", (0, b"", len(replies)), (ran.returncode, ran.stderr, len(ran.stdout)))
         check(f"what {name} is answered", None, next((place for place, (one, other) in enumerate(zip(replies, ran.stdout)) if one != other), None))
 
@@ -318,8 +318,10 @@ def main():
     with tempfile.TemporaryDirectory() as folder:
         for seed in SEEDS:
             for shape in SCRIPTS:
-                check_script(seed, *shape)
+                check_script(seed, "", *shape)
+            check_script(seed, "ordered", *SCRIPTS[0])
             check_sessions(folder, seed)
+        check_sessions(folder, SEEDS[0] + 1, "--cache", "ordered")
     print(f"{hostile.passed} passed, {hostile.failed} failed")
     return hostile.failed > 0
 

@@ -5,11 +5,14 @@ comes behind it, data that are too long, and sessions that are broken off.
 What an option has changed is seen by an EXPORT_NAME and requests behind it. What each client has to be answered was written by hand.
 Prints a line for each check that fails, and last 'N passed, M failed'.
 """
+import os
+import re
+import subprocess
 import sys
 import tempfile
 
 import hostile
-from hostile import BLOCK, DISC, FLUSH, READ, STATUS, WRITE, check, request
+from hostile import BLOCK, DISC, FLUSH, NBDJ, READ, STATUS, WRITE, check, request
 from requests import GREETING, answers, connected, hold, of, served, simple
 
 MAGIC, REPLY = "49484156454f5054", "0003e889045565a9"
@@ -171,6 +174,90 @@ def beginnings(folder):
             hold(name, connected, path, sent + REQUESTS, GREETING + written)
 
 
+# The bytes of a name that isn't ASCII alone, what asks for it with no types of information, and what selects its context.
+NAME = "76 6d c3 a9"
+NAMED = f"00000004 {NAME}"
+LISTS_NAME = of(told(LIST, 2, NAMED), acknowledged(LIST))
+
+# An option over an export of this name, structured replies agreed on before: the answer to it, and whether transmission begins.
+NAMES = [
+    (LIST, "", LISTS_NAME, False),
+    (1, NAME, of("0000000000010000 01ed"), True),
+    (GO, f"{NAMED} 0000", of(export("01ed"), acknowledged(GO)), True),
+    (INFO, f"{NAMED} 0000", of(told(INFO, 3, "0000 0000000000010000 01ed"), acknowledged(INFO)), False),
+    (SET_CONTEXT, f"{NAMED} 00000001 0000000f {ALLOCATION}", SELECTS, False),
+    (LIST_CONTEXT, f"{NAMED} 00000000", LISTED, False),
+    # The empty name, a shorter one, a longer one, and one with another last byte are of no export.
+    *[(number, f"{name}{rest}", refused(number, 6), False) for number, rest in ((GO, " 0000"), (INFO, " 0000"), (SET_CONTEXT, SELECT[8:]), (LIST_CONTEXT, " 00000000"))
+      for name in ("00000000", "00000003 76 6d c3", f"00000005 {NAME} 00", "00000004 76 6d c3 a8")],
+    *[(1, name, b"", None) for name in ("", "76 6d c3", f"{NAME} 00", "76 6d c3 a8")],
+]
+
+
+def names(folder):
+    with served(folder, "named", 16, "--export-name", of(NAME).decode()) as path:
+        for number, data, written, begins in NAMES:
+            sent = of("00000003", STRUCTURED[0], option(number, data))
+            wanted = of(GREETING, STRUCTURED[1], written)
+            if begins is False:
+                sent += option(LIST)
+                wanted += LISTS_NAME
+            sent += request(READ, 5, LAST, 1)
+            wanted += of(CHUNK) if begins else b""
+            name = f"option {number} with {of(data)[:40].hex(' ', 4)} over a name"
+            check(name, wanted.hex(" ", 4), answers(connected, path, [sent], len(wanted)).hex(" ", 4))
+
+
+def unflushed(folder):
+    """In the mode `ordered` neither FLUSH nor FUA is offered, and both are answered."""
+    with served(folder, "unflushed", 16, "--cache", "ordered") as path:
+        for name, before, flags, behind in (("plain", PLAIN, "0161", SIMPLE), ("structured", STRUCTURED, "01e1", CHUNKS)):
+            sent = of("00000003", before[0], option(INFO, "00000000 0000"), option(1)) + request(WRITE, 9, 0, 1, 1) + b"C" + REQUESTS
+            wanted = of(GREETING, before[1], told(INFO, 3, f"0000 0000000000010000 {flags}"), acknowledged(INFO), f"0000000000010000 {flags}", simple(9), behind)
+            check(f"unflushed: {name}", wanted.hex(" ", 4), answers(connected, path, [sent], len(wanted)).hex(" ", 4))
+
+
+def started(folder, name, *words):
+    """A server of the image of that name, and the lines that it prints behind the first."""
+    path = os.path.join(folder, f"{name}.sock")
+    server = subprocess.Popen([NBDJ, "serve", os.path.join(folder, f"{name}.img"), "--unix", path, *words], stdin=subprocess.DEVNULL, stdout=subprocess.PIPE, text=True)
+    check(f"{name}: it listens", f"listening {path}\n", server.stdout.readline())
+    return server, path
+
+
+def asked(path, name):
+    """What a GO for this name is answered, behind the greeting."""
+    data = hostile.struct.pack(">I", len(name)) + name.encode() + bytes(2)
+    wanted = len(GREETING) + max(len(export("016d")) + len(acknowledged(GO)), len(refused(GO, 6)))
+    return answers(connected, path, [of("00000003", option(GO, data))], wanted)[len(GREETING):]
+
+
+def fresh(folder):
+    """A name that differs at each start: clients of an earlier one are refused."""
+    image = os.path.join(folder, "fresh.img")
+    subprocess.run([NBDJ, "format", image, "--blocks", "16", "--area", "2097152"], check=True, stdout=subprocess.DEVNULL, timeout=60)
+    names = []
+    for _ in range(3):
+        server, path = started(folder, "fresh", "--export-name", "vm", "--fresh-name")
+        with server:
+            line = server.stdout.readline()
+            check("fresh: the line", True, re.fullmatch(r"export vm-\d+\n", line) is not None)
+            names.append(line.split()[-1])
+            check("fresh: its name", of(export("016d"), acknowledged(GO)), asked(path, names[-1]))
+            for other in ["vm", "", *names[:-1]]:
+                check("fresh: another name", refused(GO, 6), asked(path, other))
+            server.kill()
+    check("fresh: three names", 3, len(set(names)))
+    found = subprocess.run([NBDJ, "serve", image, "--unix", path, "--fresh-name"], capture_output=True, text=True, timeout=60)
+    check("fresh: without a name", 2, found.returncode)
+    for length, status in ((4_075, None), (4_076, 2)):
+        words = [NBDJ, "serve", image, "--unix", path, "--export-name", "x" * length, "--fresh-name"]
+        with subprocess.Popen(words, stdin=subprocess.DEVNULL, stdout=subprocess.PIPE, stderr=subprocess.PIPE, text=True) as server:
+            line = server.stdout.readline()
+            check(f"fresh: a name of {length} bytes", f"listening {path}\n" if status is None else "", line)
+            server.kill() if status is None else check("fresh: its status", status, server.wait(20))
+
+
 DATA = bytes(place % 253 for place in range(BLOCK))
 WHOLE = of("00000003", STRUCTURED[0], option(GO, "00000000 0001 0003"), request(WRITE, 0x0102030405060708, 0, BLOCK), DATA,
            request(READ, 2, 0, BLOCK), request(FLUSH, 3, 0, 0), request(DISC, 4, 0, 0))
@@ -193,7 +280,7 @@ def whole(folder):
 
 def main():
     with tempfile.TemporaryDirectory() as folder:
-        for scenario in (options, beginnings, whole):
+        for scenario in (options, beginnings, names, unflushed, fresh, whole):
             hostile.guarded(scenario, folder)
     print(f"{hostile.passed} passed, {hostile.failed} failed")
     return hostile.failed > 0

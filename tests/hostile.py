@@ -91,6 +91,8 @@ class Server:
     def __init__(self, folder, name, workers, *words, made=False, program=(NBDJ, "serve"), **settings):
         """With `made` of the image that there is."""
         self.name, self.workers = name, workers
+        # (in `ordered` neither FLUSH nor FUA is offered)
+        self.flags = 0x0161 if "ordered" in words else 0x016D
         image = self.image = os.path.join(folder, f"{name}.img")
         if not made:
             subprocess.run([NBDJ, "format", image, "--blocks", str(BLOCKS), "--area", "2097152"], check=True, stdout=subprocess.DEVNULL, timeout=60)
@@ -126,8 +128,9 @@ class Server:
         client.sendall(HANDSHAKE)
         found = take(client, 18 + 32 + 34 + 20)
         size, flags = struct.unpack(">QH", found[18 + 22:18 + 32])
-        if (found[:16], size, flags) != (b"NBDMAGICIHAVEOPT", BLOCKS * BLOCK, 0x016D):
-            check(f"{self.name}: the handshake", (b"NBDMAGICIHAVEOPT", BLOCKS * BLOCK, 0x016D), (found[:16], size, flags))
+        wanted = (b"NBDMAGICIHAVEOPT", BLOCKS * BLOCK, self.flags)
+        if (found[:16], size, flags) != wanted:
+            check(f"{self.name}: the handshake", wanted, (found[:16], size, flags))
         return client
 
     def resident(self):

@@ -1,8 +1,9 @@
 #!/usr/bin/env python3
 """How `serve` of the built program NBDJ begins, goes on and ends, as who runs it sees it: what a kill leaves, also of sectors that clients
-write beside one another and of blocks that they write by turns, eight clients at once beside plain bytes, clients beside a slow device, an
-end that is asked for, dead clients, a device that fails, a sector that can't be read, what is told, more clients than workers, silent
-handshakes, several listeners, sockets that it is started with, and a log that nobody reads.
+write beside one another and of blocks that they write by turns, eight clients at once beside plain bytes, clients beside a slow device, a
+FLUSH in ordered, how much may be pending, an end that is asked for, dead clients, a device that fails, another writer of the image, a sector
+that can't be read, what is told, more clients than workers, silent handshakes, several listeners, sockets that it is started with, a log that
+nobody reads, an opening that takes long, a lock that another process has, calls of the device that hang, and a lock that is lost.
 
 usage: tests/operating.py [SCENARIO ..]          (SCENARIO: the name of one of the functions below that `main` lists; by default all)
 
@@ -11,6 +12,7 @@ Prints a line for each check that fails, and last 'N passed, M failed'.
 import bisect
 import contextlib
 import os
+import pty
 import random
 import re
 import resource
@@ -288,9 +290,9 @@ def is_silent(client):
     return not select.select([client], [], [], 0)[0]
 
 
-def slow(folder):
-    """How a server whose device takes five seconds for each sync is run."""
-    return {"env": {**os.environ, "SLOW_SYNC_US": "5000000", "LD_PRELOAD": preloaded(folder, "slow_sync")}}
+def slow(folder, seconds=5):
+    """How a server whose device takes so many seconds for each sync is run."""
+    return {"env": {**os.environ, "SLOW_SYNC_US": str(seconds * 1000000), "LD_PRELOAD": preloaded(folder, "slow_sync")}}
 
 
 def beside(folder):
@@ -312,6 +314,41 @@ def beside(folder):
         other.sendall(request(FLUSH, 77, 0, 0) + request(READ, 78, 5 * MIB, BLOCK))
         check("another client's flush and read", reply(77) + reply(78) + bytes([5]) * BLOCK, take(other, 32 + BLOCK))
         check("what another client's flush covered, and a kill", "commands 16", killed(server))
+
+
+def unflushed(folder):
+    """In ordered a FLUSH makes nothing durable: neither it nor FUA waits for a sync, and a kill takes what it confirmed."""
+    with Server(folder, "unflushed", 2, "--cache", "ordered", "--flush-interval", "0", **slow(folder)) as server, server.shaken() as client:
+        begun = time.monotonic()
+        check("a write in ordered", True, write(client, 1, BLOCK))
+        check("a write with FUA in ordered", True, write(client, 2, BLOCK, FUA))
+        client.sendall(request(FLUSH, 3, 0, 0) + request(READ, 4, MIB, BLOCK))
+        check("a flush in ordered", reply(3) + reply(4) + bytes([1]) * BLOCK, take(client, 32 + BLOCK))
+        check("none of them waits for a sync", True, time.monotonic() - begun < 4)
+        check("a kill behind a flush in ordered", "commands 0", killed(server))
+
+
+def bounded(folder):
+    """While each sync takes two seconds: so many bytes are pending at most, and a write waits while an older one is pending for too long."""
+    quarter = MIB // 4
+    with Server(folder, "bytes", 2, "--cache", "ordered", "--loss-bytes", "2M", "--flush-interval", "0", **slow(folder, 2)) as server, server.shaken(60) as client:
+        for cookie in range(8):
+            client.sendall(request(WRITE, cookie, cookie * quarter, quarter) + bytes([cookie]) * quarter)
+        check("seven writes of 262,157 bytes each are pending", b"".join(reply(cookie) for cookie in range(7)), take(client, 7 * 16))
+        time.sleep(1)
+        check("the eighth waits", True, is_silent(client))
+        check("the eighth is answered once a group is stored", reply(7), take(client, 16))
+        check("a kill then leaves some", True, int(killed(server).split()[1]) >= 1)
+    with Server(folder, "seconds", 2, "--loss-seconds", "0.5", "--flush-interval", "0", **slow(folder, 2)) as server, server.shaken(60) as client:
+        check("a first write", True, write(client, 1, BLOCK))
+        check("one behind it at once", True, write(client, 2, BLOCK))
+        time.sleep(1)
+        client.sendall(request(READ, 9, MIB, BLOCK) + request(WRITE, 3, 3 * MIB, BLOCK) + bytes([3]) * BLOCK)
+        check("a read while the first is old", reply(9) + bytes([1]) * BLOCK, take(client, 16 + BLOCK))
+        time.sleep(1)
+        check("a write waits while the first is old", True, is_silent(client))
+        check("it is answered once the first is stored", reply(3), take(client, 16))
+        check("a kill then leaves the two", "commands 2", killed(server))
 
 
 class Prefixes:
@@ -549,6 +586,28 @@ def failing(folder):
         server.process.wait(timeout=60)
         told = server.process.stderr.read().splitlines()
         check("staying: it told once", [True], [line.endswith(": File too large (os error 27)") for line in told])
+
+
+def second_writer(folder):
+    """Another process changes the header in force: the server ends before its next change of the header, and stores no more."""
+    with Server(folder, "second writer", 2) as server, server.shaken() as client:
+        check("second writer: a write", True, write(client, 1, BLOCK))
+        with open(server.image, "r+b") as image:
+            # The header that `format` has written stands in slot 0, its generation in bytes 9 to 16.
+            image.seek(9)
+            image.write((7).to_bytes(8, "big"))
+            image.seek(0)
+            left = image.read(2 * BLOCK)
+        try:
+            # Long before 8 MiB are stored the journal has to go on in another area than its first, of 2 MiB.
+            goes_on = all(write(client, 1 + number % 4, MIB // 4, FUA) for number in range(32))
+        except ConnectionError:
+            goes_on = False
+        check("second writer: all writes are stored", False, goes_on)
+        told = f"nbdj: {server.image}: the header isn't the one this process wrote last: something else has written to this image"
+        check("second writer: the end", (1, [told, "nbdj: device fault (1)"]), (lambda it: (it[0], it[1].splitlines()))(ended(server)))
+        with open(server.image, "rb") as image:
+            check("second writer: the headers stay", True, image.read(2 * BLOCK) == left)
 
 
 def writes_rounds(client, own):
@@ -888,9 +947,201 @@ def copied(folder):
         check("copied: what is told", f"nbdj: {server.image}: checkpoint of 128 blocks in T s\n", re.sub(r"\d+\.\d{3} s$", "T s", line, flags=re.M))
 
 
+def long_opening(folder):
+    """An opening whose copies take six seconds tells how far it is: in lines, and on a terminal by a bar; of a short one nothing is told."""
+    with Server(folder, "long", 1, "--flush-interval", "0") as server, server.shaken() as client:
+        # Less than a quarter of the frames, so no checkpoint begins; copied in 13 pieces of 32 KiB.
+        check("long: a write", True, write(client, 1, 100 * BLOCK))
+        client.sendall(request(FLUSH, 9, 0, 0))
+        check("long: a flush", reply(9), take(client, 16))
+        server.process.kill()
+        server.process.wait(timeout=20)
+    slowly = {**os.environ, "SLOW_WRITE_US": "500000", "LD_PRELOAD": preloaded(folder, "slow_sync")}
+    with open(server.image, "rb") as file:
+        image = file.read()
+
+    def recover(**settings):
+        with open(server.image, "wb") as file:
+            file.write(image)
+        return subprocess.run([NBDJ, "recover", server.image], stdout=subprocess.PIPE, text=True, timeout=60, **settings)
+
+    found = recover(stderr=subprocess.PIPE)
+    check("long: a short one", ("commands 1\n", ""), (found.stdout, found.stderr))
+    found = recover(stderr=subprocess.PIPE, env=slowly)
+    check("long: the commands", "commands 1\n", found.stdout)
+    check("long: a line", ["nbdj: 0 of at most N MiB copied, 0 MiB/s"], [re.sub(r"most [12] MiB", "most N MiB", it) for it in found.stderr.splitlines()])
+    reader, terminal = pty.openpty()
+    with contextlib.closing(open(reader, "rb", buffering=0)) as shown:
+        check("long: on a terminal", "commands 1\n", recover(stderr=terminal, env=slowly).stdout)
+        os.close(terminal)
+        told = b""
+        with contextlib.suppress(OSError):
+            while piece := shown.read(65536):
+                told += piece
+    bars = told.decode().split("\r")
+    check("long: many bars", True, len(bars) > 5)
+    check("long: a bar", True, all(re.fullmatch(r"(nbdj: \[#*\.*\] \d of at most \d MiB copied, 0 MiB/s(, at most \d+ s left)? )?\n?", it) for it in bars))
+    check("long: the last one", ["nbdj: [" + "#" * 30 + "] 1 of at most 1 MiB copied, 0 MiB/s, at most 0 s left ", "\n"], bars[-2:])
+
+
+def put_and_flush(server, client, cookie):
+    """A block that a FLUSH confirms, at MIB times the cookie."""
+    check(f"{server.name}: a write", True, write(client, cookie, BLOCK))
+    client.sendall(request(FLUSH, cookie, 0, 0))
+    check(f"{server.name}: a flush", reply(cookie), take(client, 16))
+
+
+def while_locked(image, *words, **settings):
+    """A command that waits for the lock of an image."""
+    return subprocess.Popen([NBDJ, *words[:1], image, "--wait-lock", *words[1:]], stdout=subprocess.PIPE, stderr=subprocess.PIPE, text=True, **settings)
+
+
+def waiting(folder):
+    """`--wait-lock`: who comes while another process has the lock waits, says so once, and finds what that one has left."""
+    refused = []
+    with Server(folder, "locked", 1) as server, server.shaken() as client:
+        said = f"nbdj: {server.image}: another process has locked it; waiting for it\n"
+        put_and_flush(server, client, 1)
+        for command in (["recover", server.image], ["upgrade", server.image], ["serve", server.image, "--listen", "127.0.0.1:0"]):
+            ran = subprocess.run([NBDJ, *command], capture_output=True, text=True, timeout=60)
+            refused.append((ran.returncode, ran.stdout, ran.stderr.splitlines()[-1:]))
+        check("locked: without --wait-lock", [(4, "", [f"nbdj: {server.image} is in use"])] * 3, refused)
+        asked = while_locked(server.image, "serve", "--listen", "127.0.0.1:0", "--until-eof", stdin=subprocess.PIPE)
+        waits = while_locked(server.image, "recover")
+        time.sleep(1.3)
+        check("locked: they wait", (None, None), (asked.poll(), waits.poll()))
+        check("locked: an end that is asked for meanwhile", ("", said), asked.communicate(timeout=20))
+        check("locked: its status", 0, asked.returncode)
+        put_and_flush(server, client, 2)
+        server.process.kill()
+        check("locked: what is found once the lock is free", ("commands 2\n", said), waits.communicate(timeout=20))
+        check("locked: the status then", 0, waits.returncode)
+    with Server(folder, "locked", 1, made=True) as server:
+        waits = while_locked(server.image, "serve", "--listen", "127.0.0.1:0")
+        check("locked: what a server says", said, waits.stderr.readline())
+        server.process.kill()
+        check("locked: it serves then", "listening", waits.stdout.readline().split()[0])
+        upgrades = while_locked(server.image, "upgrade")
+        check("locked: what an upgrade says", said, upgrades.stderr.readline())
+        waits.kill()
+        waits.communicate(timeout=20)
+        check("locked: it upgrades then", ("area too small (22)", 1), (upgrades.communicate(timeout=20)[1].strip().removeprefix("nbdj: "), upgrades.returncode))
+    missing = subprocess.run([NBDJ, "recover", os.path.join(folder, "nothing.img"), "--wait-lock"], capture_output=True, timeout=20)
+    check("locked: nobody has a file that isn't there", 1, missing.returncode)
+
+
+@contextlib.contextmanager
+def hampered(folder, name, *words, made=False, **settings):
+    """A server whose device hangs once a file `NAME.stuck` is made, and whose lock is lost once `NAME.lost` is; that makes one of them."""
+
+    def make(what):
+        with open(os.path.join(folder, f"{name}.{what}"), "wb"):
+            pass
+
+    places = {"STUCK": os.path.join(folder, f"{name}.stuck"), "LOST": os.path.join(folder, f"{name}.lost")}
+    environment = {**os.environ, **places, "LD_PRELOAD": preloaded(folder, "stuck_calls")}
+    with Server(folder, name, 2, *words, made=made, env=environment, **settings) as server:
+        yield server, make
+    for place in places.values():
+        if os.path.exists(place):
+            os.remove(place)
+
+
+def bytes_at(path):
+    with open(path, "rb") as file:
+        return file.read()
+
+
+def late(folder):
+    """`--device-timeout`: a call of the device that hangs ends the server, which stores nothing more and cuts its clients off."""
+    limit = ("--device-timeout", "0.5")
+    with hampered(folder, "late", *limit) as (server, make), server.shaken() as other, server.shaken() as client:
+        told = [f"nbdj: {server.image}: a call of the device has taken longer than 0.500 s", "nbdj: device fault (1)"]
+        put_and_flush(server, client, 1)
+        check("late: a write that isn't flushed", True, write(client, 2, BLOCK))
+        make("stuck")
+        before, begun = bytes_at(server.image), time.monotonic()
+        client.sendall(request(FLUSH, 3, 0, 0))
+        check("late: the flush has no answer", b"", take(client, 16))
+        check("late: another session ends", b"", take(other, 1))
+        status, errors = ended(server)
+        check("late: the end", (1, told), (status, errors.splitlines()))
+        check("late: it came in time", True, 0.5 <= time.monotonic() - begun < 10 or time.monotonic() - begun)
+        check("late: nothing more was stored", True, before == bytes_at(server.image))
+    check("late: what was confirmed is there", "commands 1", recovered(server))
+    # A read beside the locks, of a block that isn't in memory.
+    with hampered(folder, "late", *limit, made=True) as (server, make), server.shaken() as client:
+        make("stuck")
+        client.sendall(request(READ, 1, MIB, BLOCK))
+        check("late: a read has no answer", b"", take(client, 16))
+        check("late: the end by a read", (1, "\n".join(told) + "\n"), ended(server))
+    # An opening, and a standard error that nobody reads and that takes nothing more.
+    output, input_end = os.pipe()
+    os.set_blocking(input_end, False)
+    with contextlib.suppress(BlockingIOError):
+        while os.write(input_end, bytes(4096)):
+            pass
+    os.set_blocking(input_end, True)
+    stuck = os.path.join(folder, "late.stuck")
+    with open(stuck, "wb"):
+        pass
+    environment = {**os.environ, "STUCK": stuck, "LD_PRELOAD": preloaded(folder, "stuck_calls")}
+    opening = subprocess.Popen([NBDJ, "serve", server.image, "--listen", "127.0.0.1:0", *limit], stdout=subprocess.PIPE, stderr=input_end, env=environment)
+    try:
+        check("late: an opening", (b"", 1), (opening.communicate(timeout=20)[0], opening.returncode))
+    finally:
+        opening.kill()
+        opening.wait()
+        os.remove(stuck)
+        os.close(output)
+        os.close(input_end)
+    # Slow calls that are no longer than they may be.
+    settings = {"env": {**os.environ, "SLOW_SYNC_US": "50000", "LD_PRELOAD": preloaded(folder, "slow_sync")}}
+    with Server(folder, "slow and in time", 1, "--device-timeout", "10", "--lock-check", "0.01", **settings) as server, server.shaken() as client:
+        for cookie in range(1, 6):
+            put_and_flush(server, client, cookie)
+        check("slow and in time: a kill", "commands 5", killed(server))
+
+
+def shut_out(folder):
+    """`--lock-check`: a lock that is lost, or a sync that fails, is a fault of the device, though no client asks for anything."""
+    with hampered(folder, "shut out", "--lock-check", "0.2") as (server, make), server.shaken() as client:
+        put_and_flush(server, client, 1)
+        check("shut out: a write that isn't flushed", True, write(client, 2, BLOCK))
+        time.sleep(0.5)
+        client.sendall(request(READ, 3, MIB, BLOCK))
+        check("shut out: a read before", reply(3), take(client, 16 + BLOCK)[:16])
+        make("lost")
+        check("shut out: its session ends", b"", take(client, 1))
+        wanted = [f"nbdj: {server.image}: lock check: File descriptor in bad state (os error 77)", "nbdj: device fault (1)"]
+        status, errors = ended(server)
+        check("shut out: the end", (1, wanted), (status, errors.splitlines()))
+    with hampered(folder, "shut out and staying", "--lock-check", "0.2", "--on-fault", "stay") as (server, make), server.shaken() as client:
+        put_and_flush(server, client, 1)
+        make("lost")
+        errors = server.process.stderr.readline()
+        check("shut out and staying: what is told", f"nbdj: {server.image}: lock check: File descriptor in bad state (os error 77)\n", errors)
+        for asked in (request(READ, 2, MIB, BLOCK), request(WRITE, 2, 0, BLOCK) + bytes(BLOCK), request(FLUSH, 2, 0, 0)):
+            client.sendall(asked)
+            check("shut out and staying: it answers from memory no more", reply(2, EIO), take(client, 16))
+        check("shut out and staying: it lives", None, server.process.poll())
+    with hampered(folder, "unchecked") as (server, make), server.shaken() as client:
+        put_and_flush(server, client, 1)
+        make("lost")
+        time.sleep(0.5)
+        put_and_flush(server, client, 2)
+    # The syncs of the checks are the only ones of a server that is idle.
+    settings = {"env": {**os.environ, "FAIL_CALL": "fdatasync 30", "LD_PRELOAD": preloaded(folder, "fail_calls")}}
+    with Server(folder, "unsynced", 1, "--lock-check", "0.02", **settings) as server:
+        wanted = [f"nbdj: {server.image}: lock check: Input/output error (os error 5)", "nbdj: device fault (1)"]
+        status, errors = ended(server)
+        check("unsynced: the end", (1, wanted), (status, errors.splitlines()))
+
+
 def main():
-    scenarios = [kills, intervals, sectors, in_turn, eight, beside, shown, asked_to_end, managed, idle, failing, failing_amid_eight, gathered,
-                 unreadable, told, refused_when_full, silent_handshakes, many_listeners, activated, crowded, unheard, copied]
+    scenarios = [kills, intervals, sectors, in_turn, eight, beside, unflushed, bounded, shown, asked_to_end, managed, idle, failing, second_writer,
+                 failing_amid_eight, gathered, unreadable, told, refused_when_full, silent_handshakes, many_listeners, activated, crowded, unheard, copied,
+                 long_opening, waiting, late, shut_out]
     unknown = set(sys.argv[1:]) - {it.__name__ for it in scenarios}
     if unknown:
         sys.exit(f"operating.py: there is no scenario {', '.join(sorted(unknown))}")

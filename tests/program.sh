@@ -97,6 +97,10 @@ run serve new.img
 is 'what is said where no address is' "2|error: one of --listen <ADDR> and --unix <SOCKET> is wanted" "$status|$(head -n 1 errors)"
 refused 'sessions past 64 bits' serve new.img --listen 127.0.0.1:0 --sessions 18446744073709551616
 refused 'unknown cache mode of a server' serve new.img --listen 127.0.0.1:0 --cache unsafe
+refused 'too few bytes that may be lost' serve new.img --listen 127.0.0.1:0 --loss-bytes 2097151
+refused 'too many of them' serve new.img --listen 127.0.0.1:0 --loss-bytes 65M
+refused 'bytes that are no number' serve new.img --listen 127.0.0.1:0 --loss-bytes much
+refused 'four digits of a second' serve new.img --listen 127.0.0.1:0 --loss-seconds 0.0001
 refused 'a word too many' recover new.img more
 refused 'layout 0' format new.img --size 64K --layout 0
 refused 'layout 3' format new.img --size 64K --layout 3
@@ -926,6 +930,21 @@ wait $!
 is 'the end of the conversation' 0 $?
 exec 4<&-
 
+# In ordered a FLUSH makes nothing durable, and neither does FUA: both are answered though nothing is stored. At the end all is.
+fresh 16 2097152
+timeout 20 "$NBDJ" pipe d.img --cache ordered <requests >replies &
+exec 3>requests 4<replies
+{ request 0001 1 7 0 4096; filled 4096 G; request 0000 3 8 0 0; } >&3
+is 'a flush in ordered' "$(reply 7 0)$(reply 8 0)" "$(head -c 32 <&4 | hex)"
+is 'not stored before its reply' 00 "$(part d.img 8192 1)"
+request 0000 2 9 0 0 >&3
+exec 3>&-
+wait $!
+is 'the end of the conversation in ordered' 0 $?
+exec 4<&-
+: >input
+ends 'stored at the end in ordered' 0 "$(text 'commands 1')" '' recover d.img
+
 # A stream that can't be written.
 if [ -w /dev/full ]; then
     fresh 16 2097152
@@ -1046,6 +1065,9 @@ is 'the installed program' "nbdj $version" "$('in stalled/bin/nbdj' --version)"
 is 'the installed completion' yes "$([ -s 'in stalled/share/bash-completion/completions/nbdj' ] && echo yes)"
 unit='in stalled/lib/systemd/system/nbdj@.service'
 is 'the program of the unit' "ExecStart=\"$folder/in stalled/bin/nbdj-server\"" "$(sed -n 's/^\(ExecStart="[^"]*"\) .*/\1/p' "$unit")"
+is 'the program of the unit of a takeover' "\"$folder/in stalled/bin/nbdj-standby\" /srv/nbdj/%i.img \${ADDRESS}" \
+    "$(sed -n 's/^ExecStart=\(.*ADDRESS}\).*/\1/p' 'in stalled/lib/systemd/system/nbdj-failover@.service')"
+same 'the installed options of a volume' "$here/packaging/failover.volume" 'in stalled/share/nbdj/failover.volume'
 is 'the installed unit of the socket' 'ListenStream=/run/nbdj-%i/socket' "$(grep ListenStream= "${unit%.service}.socket")"
 fresh 16 2097152
 mkdir run

@@ -29,11 +29,11 @@ def of(*parts):
 
 
 @contextlib.contextmanager
-def served(folder, name, blocks):
+def served(folder, name, blocks, *words):
     """The path of the socket of a server of a new image."""
     image, path = os.path.join(folder, f"{name}.img"), os.path.join(folder, f"{name}.sock")
     subprocess.run([NBDJ, "format", image, "--blocks", str(blocks), "--area", "2097152"], check=True, stdout=subprocess.DEVNULL, timeout=60)
-    with subprocess.Popen([NBDJ, "serve", image, "--unix", path], stdin=subprocess.DEVNULL, stdout=subprocess.PIPE, text=True) as server:
+    with subprocess.Popen([NBDJ, "serve", image, "--unix", path, *words], stdin=subprocess.DEVNULL, stdout=subprocess.PIPE, text=True) as server:
         try:
             check(f"{name}: it listens", f"listening {path}\n", server.stdout.readline())
             yield path
@@ -250,9 +250,17 @@ def lengths(folder):
             check(f"another magic number at {place}", simple(7), answers(shaken, path, [sent], 16))
 
 
+def ordered(folder):
+    """In ordered a FLUSH and FUA are offered and answered Ok, though they make nothing durable: a kill may take all. What the rules refuse they
+    refuse there too."""
+    with served(folder, "ordered", 16, "--cache", "ordered", "--flush-interval", "0") as path:
+        sent = FIRST + request(WRITE, 2, BLOCK, 4, FUA) + b"BBBB" + request(FLUSH, 3, 0, 0) + request(FLUSH, 4, 1, 0) + request(TRIM, 5, 0, BLOCK, FUA)
+        hold("requests in ordered", shaken, path, sent, simple(1) + simple(2) + simple(3) + simple(4, 22) + simple(5))
+
+
 def main():
     with tempfile.TemporaryDirectory() as folder:
-        for scenario in (requests, nothing, beginnings, by_turns, flags, lengths):
+        for scenario in (requests, nothing, beginnings, by_turns, flags, lengths, ordered):
             hostile.guarded(scenario, folder)
     print(f"{hostile.passed} passed, {hostile.failed} failed")
     return hostile.failed > 0

@@ -270,11 +270,12 @@ def check_watched(path):
 
 
 def requests_of_others(folder):
-    """What isn't a GET of one of the two paths."""
+    """What isn't a request of one of the three paths."""
     with told(folder, "others") as (server, path):
         for name, sent_bytes, wanted in (
             ("another path", b"GET /x HTTP/1.1\r\n\r\n", "404 Not Found"),
             ("another method", b"POST /status HTTP/1.1\r\n\r\n", "405 Method Not Allowed"),
+            ("a GET of what is posted", b"GET /store HTTP/1.1\r\n\r\n", "405 Method Not Allowed"),
             ("no request", b"\x00\x01\r\n\r\n", "400 Bad Request"),
             ("a long head", b"GET /status HTTP/1.1\r\nX: " + b"x" * 5000, "431 Request Header Fields Too Large"),
             ("many fields", b"GET /status HTTP/1.1\r\n" + b"X: x\r\n" * 40 + b"\r\n", "431 Request Header Fields Too Large"),
@@ -366,6 +367,50 @@ def faulty(folder):
         check("faulty: nothing is durable", 0, found["durable_number"])
 
 
+def stored(folder):
+    """Writes that no client flushes are stored when `nbdj status --store` has returned, and a kill takes only later ones."""
+    with told(folder, "stored", "--flush-interval", "0") as (server, path):
+        check("stored: nothing yet", (0, "stored 0\n", ""), run(path, "--store"))
+        with server.shaken() as client:
+            for number in range(3):
+                write(client, number, number * BLOCK, bytes([number + 1]) * BLOCK)
+            check("stored: pending before", 3, figures(path)["pending_commands"])
+            check("stored: three writes", (0, "stored 3\n", ""), run(path, "--store"))
+            check("stored: nothing pending", (0, 3), (figures(path)["pending_commands"], figures(path)["durable_number"]))
+            check("stored: as a request", ("HTTP/1.1 200 OK", "3\n"), ask(path, "POST", "/store")[::2])
+            write(client, 9, 3 * BLOCK, bytes([4]) * BLOCK)
+            server.process.kill()
+            server.process.wait(timeout=20)
+        check("stored: after a kill", "commands 3\n", subprocess.run([NBDJ, "recover", server.image], capture_output=True, text=True, timeout=60).stdout)
+    check("stored: no server", (1, "", f"nbdj: not stored by {path}\n"), run(path, "--store"))
+
+
+def stored_slowly(folder):
+    """While it is stored, which takes two syncs of five seconds, figures are told at once, and a second client is told to come again."""
+    with told(folder, "slowly", "--flush-interval", "0", **slow_device(folder)) as (server, path):
+        with server.shaken() as client:
+            write(client, 1, 0, bytes(BLOCK))
+            began = time.monotonic()
+            first = subprocess.Popen([NBDJ, "status", "--store", path], stdout=subprocess.PIPE, text=True)
+            time.sleep(1)
+            check("slowly: a second one", "HTTP/1.1 409 Conflict", ask(path, "POST", "/store")[0])
+            asked = time.monotonic()
+            check("slowly: figures meanwhile", 1, figures(path)["pending_commands"])
+            check("slowly: figures at once", True, time.monotonic() - asked < 1)
+            check("slowly: the second one waits for the first", (0, "stored 1\n", ""), run(path, "--store"))
+            check("slowly: the first", ("stored 1\n", 0), (first.communicate(timeout=60)[0], first.returncode))
+            check("slowly: not before the syncs", True, time.monotonic() - began > 9)
+
+
+def stored_by_a_device_that_fails(folder):
+    """Nothing is said to be stored by a device that has failed."""
+    with told(folder, "unstored", "--on-fault", "stay", "--flush-interval", "0", **limited()) as (server, path):
+        with server.shaken() as client:
+            write(client, 1, 0, bytes(BLOCK))
+            check("unstored: it says so", (1, "", f"nbdj: not stored by {path}\n"), run(path, "--store"))
+            check("unstored: nothing is durable", 0, figures(path)["durable_number"])
+
+
 def unopened(folder):
     """A socket that can't be made."""
     path = os.path.join(folder, "no", "where")
@@ -377,7 +422,7 @@ def unopened(folder):
 
 def main():
     with tempfile.TemporaryDirectory() as folder:
-        for scenario in (known, requests_of_others, mutated, silent, slow, faulty, unopened):
+        for scenario in (known, requests_of_others, mutated, silent, slow, faulty, stored, stored_slowly, stored_by_a_device_that_fails, unopened):
             begun = time.monotonic()
             hostile.guarded(scenario, folder)
             print(f"{scenario.__name__}: {time.monotonic() - begun:.1f} s", flush=True)

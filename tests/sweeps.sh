@@ -134,6 +134,9 @@ drawn() {
 for drawn_from in ${seed:-4711 20260 998244353}; do
     drawn "$drawn_from" >input
     swept "the script of seed $drawn_from"
+    # In ordered a FLUSH and a FUA promise nothing, and what is opened has first writes alone.
+    drawn "$drawn_from" | sed '1s/$/ ordered/' >input
+    swept "the script of seed $drawn_from in ordered"
 done
 
 echo "$runs runs with a crash"
