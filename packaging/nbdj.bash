@@ -6,7 +6,7 @@ _nbdj() {
         return
     fi
     case ${COMP_WORDS[COMP_CWORD - 1]} in
-    --cache) mapfile -t COMPREPLY < <(compgen -W 'writeback writethrough' -- "$word") ;;
+    --cache) mapfile -t COMPREPLY < <(compgen -W 'writeback writethrough ordered' -- "$word") ;;
     --layout) mapfile -t COMPREPLY < <(compgen -W '1 2' -- "$word") ;;
     --when-full) mapfile -t COMPREPLY < <(compgen -W 'wait refuse' -- "$word") ;;
     --on-fault) mapfile -t COMPREPLY < <(compgen -W 'exit stay' -- "$word") ;;
