@@ -910,8 +910,8 @@ def crowded(folder):
         server.goes_on("behind a crowd")
 
 
-def unheard(folder):
-    """Nobody reads what a server tells, into a pipe that is full: clients are served, and the server ends."""
+def full_pipe():
+    """A pipe that takes no byte more: the end that nobody reads, and the one to write to."""
     silent, full = os.pipe()
     os.set_blocking(full, False)
     try:
@@ -919,6 +919,12 @@ def unheard(folder):
             os.write(full, bytes(4096))
     except BlockingIOError:
         os.set_blocking(full, True)
+    return silent, full
+
+
+def unheard(folder):
+    """Nobody reads what a server tells, into a pipe that is full: clients are served, and the server ends, also after a fault of its device."""
+    silent, full = full_pipe()
     with Server(folder, "unheard", 2, "--verbose", "--until-eof", stdin=subprocess.PIPE, stderr=full) as server:
         for _ in range(3):
             with server.shaken(5) as client:
@@ -929,6 +935,12 @@ def unheard(folder):
                 check("unheard: the end of the session", b"", take(client, 1))
         server.process.stdin.close()
         check("unheard: the end", 0, server.process.wait(timeout=20))
+    with Server(folder, "unheard fault", 2, stderr=full, **limited()) as server, server.shaken(5) as client:
+        check("unheard fault: a write", True, write(client, 1, BLOCK))
+        client.sendall(request(FLUSH, 2, 0, 0))
+        check("unheard fault: a flush", reply(2, EIO), take(client, 16))
+        check("unheard fault: the end of the session", b"", take(client, 1))
+        check("unheard fault: the end", 1, server.process.wait(timeout=20))
     os.close(silent)
     os.close(full)
 

@@ -337,7 +337,7 @@ pub static SERVE: SubcommandRow<'static> = SubcommandRow {
             name: "sessions",
             form: Form::ValueOr("K", "0", ValueParser::Unsigned(0, u64::MAX)),
             tie: Tie::None,
-            help: "Ends once so many clients have been served; 0 for no end",
+            help: "Ends after serving K clients; 0 for no end",
         },
         ArgumentRow {
             name: "handshake-timeout",
@@ -361,7 +361,7 @@ pub static SERVE: SubcommandRow<'static> = SubcommandRow {
             name: "loss-bytes",
             form: Form::TextOr("BYTES", "64M"),
             tie: Tie::None,
-            help: "A power cut takes at most so many bytes of answered writes: a write waits while more could be pending; 2M to 64M",
+            help: "A power cut takes at most BYTES of answered writes: a write waits while more could be pending; 2M to 64M",
         },
         ArgumentRow {
             name: "loss-seconds",

@@ -34,7 +34,7 @@ fn thousandths(digits: &str) -> Option<u64>
     }
 }
 
-// The milliseconds that the last of so many digits behind the point counts.
+// The milliseconds that one of the last digit counts, of this many digits after the point.
 fn scale_of(digits: usize) -> Option<u64>
     ensures { IfSome result (IsScale digits) }
 {

@@ -6,7 +6,7 @@ use std::alloc::Global;
 /// A READ of fewer bytes takes room of its own.
 pub(crate) const LEAST_KEPT: usize = 65_536;
 
-/// So many buffers are kept at most, of 1 MiB each.
+/// The most buffers that are kept, of 1 MiB each.
 const MOST_KEPT: usize = 4;
 
 /// Room that was read into before: it needn't be made zero again.
@@ -22,7 +22,7 @@ impl BufferPool {
         }
     }
 
-    /// Room of so many bytes, whatever they are; None where there is none.
+    /// Room of this many bytes, whatever they are; None if there is none.
     pub(crate) fn take(&mut self, length: usize) -> Option<Vec<u8>>
         ensures { IfSome result (λ room. vec_len room ≡ length) }
     {

@@ -50,7 +50,7 @@ impl Progress {
         self.blocks = 0;
     }
 
-    // The first area is let go, and so many wait still.
+    // The first area is let go, and this many still wait.
     fn let_go<R: Clock, G: SyncPoints>(&mut self, rt: &R, points: &mut G, waiting: u8) {
         if let Some(took) = time_since(rt, self.began) {
             points.reach(Point::Copied {

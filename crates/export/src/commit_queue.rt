@@ -33,10 +33,10 @@ use std::alloc::Global;
 use std::rt::Clock;
 use std::time::{Duration, Instant};
 
-/// Pending commands of more than so many bytes are stored though nobody waits for them.
+/// Pending commands of more bytes than these are stored though nobody waits for them.
 const MOST_PENDING_BYTES: u64 = 4_194_304;
 
-/// A write adds at most so many bytes to what is pending, and its data: the bytes round a command's data, and those of the two blocks
+/// The most bytes that a write adds to what is pending, besides its data: the bytes round a command's data, and those of the two blocks
 /// that it may touch in part.
 const MOST_ADDED_BYTES: u64 = 8_206;
 
@@ -340,7 +340,7 @@ impl<B: ExportName> CommitQueue<B> {
         true
     }
 
-    /// Has no command accepted from now on that could leave more than so many bytes pending.
+    /// Has no command accepted from now on that could leave more than `most` bytes pending.
     pub(crate) fn limit_pending(&mut self, most: u64)
         ensures settled { self.new.settled ≡ self.old.settled }
         ensures order { self.new.order ≡ self.old.order }
@@ -445,7 +445,7 @@ impl<B: ExportName> CommitQueue<B> {
         self.order.order().dirty_blocks() as u64 * 4 >= self.frames as u64
     }
 
-    /// For how many microseconds a client waits that has written so many blocks.
+    /// How many microseconds a client waits that has written this many blocks.
     pub(crate) fn throttle(&mut self, blocks: u64) -> u64
         ensures { self.new.settled ≡ self.old.settled }
     {
@@ -453,7 +453,8 @@ impl<B: ExportName> CommitQueue<B> {
         self.throttle.note(blocks, dirty, self.frames as u64)
     }
 
-    /// Whether so many bytes are pending that they are stored though nobody waits for them: half of what may be, at most.
+    /// Whether there are enough pending bytes to store them though nobody waits for them: more than the usual limit, or than half of the
+    /// most that may be pending.
     pub(crate) fn has_much_pending(&self) -> bool {
         self.order.order().backlog_bytes() > MOST_PENDING_BYTES.min(self.most_pending / 2)
     }

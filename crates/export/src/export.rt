@@ -133,8 +133,8 @@ impl<B: ExportName, D: Disk + Drop, H: ReadBeside> Drop for Export<B, D, H> {
 }
 
 impl<B: ExportName, D: Disk, H: ReadBeside> Export<B, D, H> {
-    /// An export over a device that was opened, under its name, which is picked where this is called, with so many frames for
-    /// blocks, a pass for each of so many workers, and one for its end. A refusal for memory hands the device back.
+    /// An export over a device that was opened, under its name, which is picked where this is called, with `frames` frames for
+    /// blocks, a pass for each of `workers` workers, and one for its end. A refusal for memory hands the device back.
     pub fn open(
         alloc: Global,
         device: OpenDevice<D, H>,

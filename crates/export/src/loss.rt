@@ -9,7 +9,7 @@ use std::sync::Wait;
 use std::time::Duration;
 
 impl<B: ExportName, D: Disk, H: ReadBeside> Export<B, D, H> {
-    /// From now on no write is accepted that could leave more than so many bytes of commands pending: it waits until some are stored.
+    /// From now on no write is accepted that could leave more than `most` bytes of commands pending: it waits until some are stored.
     pub fn limit_loss<R: Wait>(&self, rt: &R, most: u64) {
         self.queue.lock(rt).limit_pending(most);
     }

@@ -4,15 +4,15 @@ use std::rt::Clock;
 use std::thread;
 use std::time::Duration;
 
-/// A step that was refused memory is taken again after so many milliseconds, and each time after twice as many, up to the most.
+/// The milliseconds after which a step that was refused memory is tried again; each time after twice as many, up to the most.
 const LEAST_WAIT: u64 = 10;
 
 const MOST_WAIT: u64 = 1_000;
 
-/// After so many milliseconds no client waits for the step any more.
+/// The milliseconds after which no client waits for the step any more.
 const PATIENCE: u64 = 1_000;
 
-/// After so many, once all clients have left, it isn't taken again.
+/// The milliseconds after which it isn't tried again, once all clients have left.
 const LAST_PATIENCE: u64 = 10_000;
 
 /// For how long a step has been refused memory, again and again.

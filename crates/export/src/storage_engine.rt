@@ -44,9 +44,9 @@ enum Stage {
 /// What a step of copying did.
 #[derive(Clone, Copy)]
 pub(crate) enum CopyStep {
-    /// It copied so many blocks.
+    /// It copied this many blocks.
     Blocks(u64),
-    /// The first area was let go, and so many wait still.
+    /// The first area was let go, and this many still wait.
     LetGo { waiting: u8 },
 }
 

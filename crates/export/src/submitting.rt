@@ -298,7 +298,7 @@ impl<B: ExportName, D: Disk, H: ReadBeside> Export<B, D, H> {
         None
     }
 
-    // Room of so many bytes.
+    // Room of this many bytes.
     fn room<R: Wait>(&self, rt: &R, length: usize) -> Option<Vec<u8>>
         ensures { IfSome result (λ room. vec_len room ≡ length) }
     {

@@ -10,16 +10,17 @@ use std::rt::Clock;
 use std::sync::{CondvarTimeouts, Wait};
 use std::time::{Duration, Instant};
 
-/// So many microseconds is a client slowed down for a write of one block where 15 of 16 frames are dirty. It is nothing up to 14 of 16,
+/// The microseconds by which a client is slowed down for a write of one block if 15 of 16 frames are dirty. It is nothing up to 14 of 16,
 /// and grows without end towards the last frame.
 const MICROS: u64 = 300;
 
-/// A write of so many blocks more is slowed down by as much again: blocks side by side are copied together.
+/// A write of this many blocks more is slowed down by as much again: blocks side by side are copied together.
 const BLOCKS_TOGETHER: u64 = 16;
 
-/// A client waits once so many microseconds have come together, of all clients, and so long at most.
+/// A client waits once the delays of all clients sum up to these microseconds.
 const LEAST_WAIT: u64 = 1_000;
 
+/// The most microseconds that a client waits at once.
 const MOST_WAIT: u64 = 10_000;
 
 /// The microseconds by which clients are still to be slowed down.
@@ -33,7 +34,7 @@ impl Throttle {
         Throttle { due: 0 }
     }
 
-    /// Notes that so many blocks were written, where so many of the frames are dirty; for how many microseconds their client waits.
+    /// Notes that blocks were written, while this many of the frames are dirty; for how many microseconds their client waits.
     pub(crate) fn note(&mut self, blocks: u64, dirty: u64, frames: u64) -> u64 {
         let above = dirty
             .saturating_mul(8)
@@ -59,7 +60,7 @@ impl Throttle {
 }
 
 impl<B: ExportName, D: Disk, H: ReadBeside> Export<B, D, H> {
-    /// Has a client wait that has written so many bytes, for 10 ms at most, where more than seven eighths of the frames are dirty;
+    /// Has a client wait that has written this many bytes, for 10 ms at most, if more than seven eighths of the frames are dirty;
     /// for how long it did, where that can be told. The write was accepted after `began`, where that is known.
     pub fn throttle<R: Wait + Clock>(
         &self,

@@ -18,7 +18,7 @@ use std::sync::atomic::{AtomicU64, Ordering};
 use std::sync::{Mutex, Wait};
 use std::thread::{self, Scope, Threads};
 
-// In so many turns a READ of the block with the turn's number is held.
+// The turns, in each of which a READ of the block with the turn's number is held.
 const TURNS: u64 = 8;
 
 // Other blocks, of which more are written in a turn than there are frames.
@@ -58,7 +58,7 @@ fn read_turns<B: ExportName, D: Disk, H: ReadBeside, R: Wait + Clock>(
     export.leave(rt, pass);
 }
 
-// Writes so many other blocks that all frames are let go and taken again, which takes checkpoints.
+// Writes enough other blocks that all frames are let go and taken again, which takes checkpoints.
 fn write_others<B: ExportName, D: Disk, H: ReadBeside, R: Wait>(
     rt: &R,
     alloc: Global,

@@ -28,21 +28,21 @@ pub enum WhenFull {
 /// How many sessions a server has, and how long it waits in them.
 #[derive(Clone, Copy)]
 pub struct Limits {
-    /// After so many sessions the server ends; 0 for no end.
+    /// The sessions after which the server ends; 0 for no end.
     pub sessions: u64,
-    /// For so many seconds a client may say nothing before its handshake is over: at least 1.
+    /// The seconds for which a client may be silent before its handshake is over: at least 1.
     pub handshake_seconds: u64,
-    /// For so many seconds it may say nothing afterwards; 0 for no end.
+    /// The seconds for which it may be silent afterwards; 0 for no end.
     pub idle_seconds: u64,
-    /// After so many milliseconds what is pending is stored, though nobody waits for it; 0 for no end.
+    /// The milliseconds after which pending writes are stored, though nobody waits for them; 0 for no end.
     pub flush_millis: u64,
-    /// So many bytes of commands are pending at most: 2,097,152 to 67,108,864.
+    /// The most bytes of commands that are pending: 2,097,152 to 67,108,864.
     pub loss_bytes: u64,
-    /// A write waits while a command is pending for longer than so many milliseconds; 0 for no end.
+    /// The milliseconds for which a command may be pending; a write waits while one is pending for longer. 0 for no end.
     pub loss_millis: u64,
-    /// A call of the device that takes longer than so many milliseconds ends the server; 0 for no end.
+    /// The milliseconds that a call of the device may take; a longer one ends the server. 0 for no end.
     pub device_millis: u64,
-    /// Every so many milliseconds the lock is taken again and the device synced; 0 for never.
+    /// The milliseconds from one check of the lock to the next, which takes the lock again and syncs the device; 0 for never.
     pub check_millis: u64,
 }
 
@@ -85,7 +85,7 @@ impl Limits {
     }
 }
 
-// So many milliseconds, and none for 0.
+// This many milliseconds; None for 0.
 fn millis(count: u64) -> Option<Duration> {
     if count == 0 {
         return None;
@@ -93,7 +93,7 @@ fn millis(count: u64) -> Option<Duration> {
     Some(Duration::from_millis(count))
 }
 
-// So many seconds, and none for 0.
+// This many seconds; None for 0.
 fn seconds(count: u64) -> Option<Duration> {
     if count == 0 {
         return None;

@@ -8,7 +8,7 @@ use std::os::unix::fs::FileExt;
 /// What is there already.
 #[derive(Clone, Copy, PartialEq, Eq)]
 pub enum Content {
-    /// A file of so many bytes.
+    /// A file of this many bytes.
     Bytes(u64),
     /// What some bytes of a block device are known for.
     Known(&'static str),

@@ -47,7 +47,7 @@ impl CopyProgress {
         (JOURNAL_FROM..self.journal_end).contains(&offset)
     }
 
-    /// So many bytes were read.
+    /// Notes that bytes were read.
     pub(crate) fn note_read(&self, offset: u64, bytes: usize) {
         if self.copied.get() == 0 && self.is_in_journal(offset) {
             self.found
@@ -55,7 +55,7 @@ impl CopyProgress {
         }
     }
 
-    /// So many bytes were written.
+    /// Notes that bytes were written.
     pub(crate) fn note_write(&self, offset: u64, bytes: usize) {
         if self.is_over.get() {
             return;

@@ -227,7 +227,7 @@ pub fn open_for_reading(rt: &HostRuntime, path: &str) -> Result<Opened, FileFaul
 pub struct Wanted {
     /// The bytes of its device.
     pub size: u64,
-    /// So many of the first bytes of a file are allocated before the first one of them counts.
+    /// How many of the first bytes of a file are allocated before the first one of them counts.
     pub allocated: u64,
     /// Whether data that are there may be lost.
     pub replaces: bool,

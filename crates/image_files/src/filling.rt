@@ -10,10 +10,10 @@ const PIECE: usize = 32_768;
 
 static ZEROES: [u8; PIECE] = [0; PIECE];
 
-// So many pieces are 1 MiB.
+// The pieces in 1 MiB.
 const TOLD: u64 = 32;
 
-/// Writes so many zeroes at an offset of a file.
+/// Writes `size` zeroes at an offset of a file.
 pub(crate) fn fill<F: FileExt>(
     file: &F,
     offset: u64,

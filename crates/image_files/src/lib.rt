@@ -21,4 +21,4 @@ pub use files::{
 };
 pub use fresh::FreshFile;
 pub use streams::ClosedStreams;
-pub use told::ToldFile;
+pub use told::{FileLines, ToldFile};

@@ -67,7 +67,7 @@ impl Progress {
         self.told.get() != self.start
     }
 
-    /// Tells that so many of `count` MiB are done, if that is due.
+    /// Tells that `done` of `count` MiB are done, if that is due.
     pub(crate) fn show(&self, done: u64, count: u64) {
         let Some(told) = self.told.get() else {
             return;

@@ -7,15 +7,28 @@ use std::fs::{Metadata, OpenFile};
 use std::io::{self, ErrorKind};
 use std::os::unix::fs::FileExt;
 
-/// A device's file of which the first call that fails is told on standard error, with what was tried and why it failed.
+/// Where the lines about a file go.
+pub trait FileLines {
+    /// Tells a line, with `nbdj: ` before it. If it can't be written, it is lost.
+    fn tell_line<T: Display + Drop>(&self, line: T);
+}
+
+/// Standard error, whose reader is waited for.
+impl FileLines for HostRuntime {
+    fn tell_line<T: Display + Drop>(&self, line: T) {
+        let _ = eprintln!(self; "nbdj: {line}");
+    }
+}
+
+/// A device's file of which the first call that fails is told, with what was tried and why it failed.
 ///
 /// A write into the header slots of an image fails if they aren't as this process has found or left them: something else has written
 /// to the image.
 #[derive(Drop)]
-pub struct ToldFile<'a, F: FileExt + OpenFile + Drop> {
+pub struct ToldFile<'a, F: FileExt + OpenFile + Drop, L: FileLines + Drop> {
     file: F,
     path: &'a str,
-    rt: HostRuntime,
+    lines: L,
     // Whether a call that fails is still to be told.
     tells: Cell<bool>,
     // Whether it holds an image, with commands that a FLUSH may have confirmed.
@@ -28,21 +41,21 @@ pub struct ToldFile<'a, F: FileExt + OpenFile + Drop> {
 
 // What is told of an image on a full disk.
 const FULL: &str =
-    "nbdj: no space left on device: free some and start again; nothing a FLUSH confirmed is lost";
+    "no space left on device: free some and start again; nothing a FLUSH confirmed is lost";
 
 // What is told where the header slots aren't as they were left.
 const OVERWRITTEN: &str =
     "the header isn't the one this process wrote last: something else has written to this image";
 
-impl<'a, F: FileExt + OpenFile + Drop> ToldFile<'a, F> {
-    /// The file at this path, whose faults are told where `tells` is set; whether it holds an image already.
+impl<'a, F: FileExt + OpenFile + Drop, L: FileLines + Drop> ToldFile<'a, F, L> {
+    /// The file at this path. Its faults are told if `tells` is set; `holds_image` says whether it holds an image already.
     pub fn new(
-        rt: &HostRuntime,
+        lines: L,
         file: F,
         path: &'a str,
         tells: bool,
         holds_image: bool,
-    ) -> ToldFile<'a, F> {
+    ) -> ToldFile<'a, F, L> {
         // What can't be read now can't be read at the opening either.
         let slots = if holds_image {
             HeaderSlots::read(&file).ok()
@@ -52,11 +65,33 @@ impl<'a, F: FileExt + OpenFile + Drop> ToldFile<'a, F> {
         ToldFile {
             file,
             path,
-            rt: *rt,
+            lines,
             tells: Cell::new(tells),
             holds_image,
             slots: Cell::new(slots),
             copying: None,
+        }
+    }
+
+    /// The same file, whose lines go elsewhere from now on.
+    pub fn tell_by<M: FileLines + Drop>(self, lines: M) -> ToldFile<'a, F, M> {
+        let ToldFile {
+            file,
+            path,
+            lines: _,
+            tells,
+            holds_image,
+            slots,
+            copying,
+        } = self;
+        ToldFile {
+            file,
+            path,
+            lines,
+            tells,
+            holds_image,
+            slots,
+            copying,
         }
     }
 
@@ -78,7 +113,7 @@ impl<'a, F: FileExt + OpenFile + Drop> ToldFile<'a, F> {
         if found != left {
             self.tells.set(false);
             let path = self.path;
-            let _ = eprintln!(self.rt; "nbdj: {path}: {OVERWRITTEN}");
+            self.lines.tell_line(format_args!("{path}: {OVERWRITTEN}"));
             return Err(io::Error::from(ErrorKind::InvalidData));
         }
         Ok(())
@@ -96,18 +131,18 @@ impl<'a, F: FileExt + OpenFile + Drop> ToldFile<'a, F> {
     }
 
     /// Has it tell how far an opening of an image of this geometry is, if that copies for long.
-    pub fn tell_copying(&mut self, geometry: &Geometry) {
-        self.copying = Some(CopyProgress::new(&self.rt, geometry));
+    pub fn tell_copying(&mut self, rt: &HostRuntime, geometry: &Geometry) {
+        self.copying = Some(CopyProgress::new(rt, geometry));
     }
 
     // Tells of the first call that failed.
     fn tell<T: Display + Drop>(&self, call: T, error: &io::Error) {
         if self.tells.replace(false) {
             let path = self.path;
-            // Where not even that can be written, the status alone tells.
-            let _ = eprintln!(self.rt; "nbdj: {path}: {call}: {error}");
+            self.lines
+                .tell_line(format_args!("{path}: {call}: {error}"));
             if self.holds_image && error.kind() == ErrorKind::StorageFull {
-                let _ = eprintln!(self.rt; "{FULL}");
+                self.lines.tell_line(FULL);
             }
         }
     }
@@ -117,7 +152,7 @@ impl<'a, F: FileExt + OpenFile + Drop> ToldFile<'a, F> {
     }
 }
 
-impl<'a, F: FileExt + OpenFile + Drop> FileExt for ToldFile<'a, F> {
+impl<'a, F: FileExt + OpenFile + Drop, L: FileLines + Drop> FileExt for ToldFile<'a, F, L> {
     fn read_at(&self, buf: &mut [u8], offset: u64) -> io::Result<usize> {
         let wanted = buf.len();
         let read = self.file.read_at(buf, offset);
@@ -145,7 +180,7 @@ impl<'a, F: FileExt + OpenFile + Drop> FileExt for ToldFile<'a, F> {
     }
 }
 
-impl<'a, F: FileExt + OpenFile + Drop> OpenFile for ToldFile<'a, F> {
+impl<'a, F: FileExt + OpenFile + Drop, L: FileLines + Drop> OpenFile for ToldFile<'a, F, L> {
     fn metadata(&self) -> io::Result<Metadata> {
         self.file.metadata()
     }

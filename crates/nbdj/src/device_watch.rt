@@ -9,7 +9,7 @@ use std::time::{Duration, Instant};
 /// to spare.
 const MOST_CALLS: usize = 32;
 
-/// For so many seconds the program waits at its end until it is told, and the connections are cut.
+/// The seconds for which the program waits at its end until it is told, and the connections are cut.
 const LAST_WAIT: u64 = 1;
 
 // What is known of the calls.

@@ -15,7 +15,6 @@ mod serving;
 mod status_client;
 mod status_socket;
 mod teller;
-mod timed_file;
 mod watched_file;
 
 use crate::device_watch::DeviceWatch;
@@ -188,6 +187,15 @@ where
     R: Threads + Wait + Clock + Copy + Send + Sync + Drop + 'static,
 {
     let teller = Teller::new(rt, &invocation);
+    let opening = Opening {
+        rt,
+        threads,
+        teller,
+        path: "",
+        waits_for_lock: invocation.waits_for_lock,
+        until_eof: false,
+        watch,
+    };
     match &invocation.plan {
         Plan::Format {
             path,
@@ -207,26 +215,14 @@ where
                 return 2;
             }
             let opening = Opening {
-                rt,
-                threads,
-                teller,
                 path,
-                waits_for_lock: invocation.waits_for_lock,
                 until_eof: options.until_eof,
-                watch,
+                ..opening
             };
             open_and_serve(&opening, addresses, *status, *name, *options)
         }
         Plan::Pipe { path, .. } | Plan::Recover { path, .. } | Plan::Upgrade { path } => {
-            let opening = Opening {
-                rt,
-                threads,
-                teller,
-                path,
-                waits_for_lock: invocation.waits_for_lock,
-                until_eof: false,
-                watch,
-            };
+            let opening = Opening { path, ..opening };
             match opening.open() {
                 Ok(Some(opened)) => run_opened(rt, teller, &invocation.plan, path, opened),
                 Ok(None) => 0,
@@ -267,7 +263,7 @@ fn format(
     match open_fresh(rt, path, wanted) {
         Ok((file, size)) => {
             let is_new = file.is_new();
-            let file = ToldFile::new(rt, file, path, teller.tells_causes(), false);
+            let file = ToldFile::new(*rt, file, path, teller.tells_causes(), false);
             let plan = Plan::Format {
                 path,
                 geometry,
@@ -351,7 +347,7 @@ fn disk_of<'a>(
     teller: Teller,
     opened: Opened,
     path: &'a str,
-) -> (FileDisk<ToldFile<'a, File>>, Locks) {
+) -> (FileDisk<ToldFile<'a, File, HostRuntime>>, Locks) {
     let Opened {
         file,
         size,
@@ -359,9 +355,9 @@ fn disk_of<'a>(
         locks,
     } = opened;
     let (file, header) = header_of(file);
-    let mut file = ToldFile::new(rt, file, path, teller.tells_causes(), true);
+    let mut file = ToldFile::new(*rt, file, path, teller.tells_causes(), true);
     if let Some(header) = header {
-        file.tell_copying(&header.geometry);
+        file.tell_copying(rt, &header.geometry);
     }
     (FileDisk::new(file, size), locks)
 }

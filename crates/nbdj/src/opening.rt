@@ -4,8 +4,9 @@ use crate::device_watch::DeviceWatch;
 use crate::lock_guard::LockGuard;
 use crate::teller::Teller;
 use image_files::{FileFault, Holder, Opened, open};
+use server::read_to_end_of;
 use std::alloc::{AllocError, Global};
-use std::io::{ErrorKind, Read};
+use std::io::Read;
 use std::rt::Clock;
 use std::sync::{Arc, Condvar, CondvarTimeouts, Mutex, Wait};
 use std::thread::{self, Threads};
@@ -127,16 +128,7 @@ impl InputEnd {
     }
 
     fn read_on<R: Wait, I: Read + Drop>(&self, rt: &R, input: I) {
-        let mut input = input;
-        let mut passed = [0; 512];
-        for _ in rt.forever() {
-            match input.read(&mut passed) {
-                Ok(0) => break,
-                Ok(_) => {}
-                Err(error) if error.kind() == ErrorKind::Interrupted => {}
-                Err(_) => break,
-            }
-        }
+        read_to_end_of(rt, input);
         *self.is_ended.lock(rt) = true;
         self.changed.notify_all();
     }

@@ -5,6 +5,7 @@ use crate::meter::micros_of;
 use crate::status_socket::{ANSWERERS, StatusSocket};
 use export::{Point, SyncPoints};
 use front_end::WhenFull;
+use image_files::FileLines;
 use nbd_wire::SessionFlags;
 use negotiation::End;
 use server::{Event, Log, Traffic, Watched};
@@ -26,7 +27,7 @@ const LONGEST_LINE: usize = 4_608;
 /// One thread cuts the connections if a call of the device takes too long, and one checks the lock.
 const GUARDS: u32 = 2;
 
-/// For so many seconds the program waits at its end until all lines are written.
+/// The seconds for which the program waits at its end until all lines are written.
 const LAST_WAIT: u64 = 1;
 
 /// What a line is about.
@@ -93,29 +94,39 @@ struct Lines {
 }
 
 impl Lines {
-    // Adds a line, cut to the longest; not where there is no room.
-    fn add<T: Display + Drop>(&mut self, path: &str, text: T) -> bool {
+    // Adds a line; one for which there is no room is left out, and counted.
+    fn add<T: Display + Drop>(&mut self, text: T) {
+        if !self.has_added(text) {
+            self.left_out = self.left_out.saturating_add(1);
+        }
+    }
+
+    // Adds a line, cut to the longest, if there is room for it; whether there was.
+    fn has_added<T: Display + Drop>(&mut self, text: T) -> bool {
         let mut line = [0; LONGEST_LINE];
         let mut room = line.as_mut_slice();
         // (A text that is longer than the room fails, once the room is full.)
-        let _ = write!(room, "nbdj: {path}: {text}");
+        let _ = write!(room, "nbdj: {text}");
         let length = LONGEST_LINE.saturating_sub(room.len());
-        let line = line.get(..length).unwrap_or(&[]);
-        if self.waiting.len().saturating_add(length) >= MOST_WAITING {
+        self.has_added_bytes(line.get(..length).unwrap_or(&[]))
+    }
+
+    fn has_added_bytes(&mut self, line: &[u8]) -> bool {
+        if self.waiting.len().saturating_add(line.len()) >= MOST_WAITING {
             return false;
         }
         self.waiting.extend_from_slice(line).is_ok() && self.waiting.push(b'\n').is_ok()
     }
 
-    // Tells how many lines were left out, where some were.
+    // Tells how many lines were left out, if any were.
     fn tell_left_out(&mut self, path: &str) {
         let count = self.left_out;
-        if count > 0 && self.add(path, format_args!("{count} lines left out")) {
+        if count > 0 && self.has_added(format_args!("{path}: {count} lines left out")) {
             self.left_out = 0;
         }
     }
 
-    // Whether so many seconds have passed since a line of this topic, which is told now then.
+    // Whether a line of this topic may be told: its gap has passed since the last one. It then counts as told.
     fn is_due<R: Clock>(&mut self, rt: &R, topic: Topic) -> bool {
         let Some(last) = self.last.get_mut(topic.place()) else {
             return false;
@@ -203,21 +214,43 @@ pub struct ServerLog<'a, R> {
 }
 
 impl<'a, R: Wait + Clock> ServerLog<'a, R> {
-    /// For the image at this path.
+    /// For the image at this path; no figures are counted.
     pub fn new(
         rt: &'a R,
         lines: &'a LogLines,
         path: &'a str,
         is_verbose: bool,
-        status: Option<&'a StatusSocket<'a>>,
     ) -> ServerLog<'a, R> {
         ServerLog {
             rt,
             lines,
             path,
             is_verbose,
-            status,
+            status: None,
         }
+    }
+
+    /// The same log, which also counts the figures that are told at this socket.
+    pub fn with_status(self, status: &'a StatusSocket<'a>) -> ServerLog<'a, R> {
+        ServerLog {
+            status: Some(status),
+            ..self
+        }
+    }
+
+    /// The threads of the server.
+    pub fn threads(&self) -> &'a R {
+        self.rt
+    }
+
+    /// Where figures are told, if they are.
+    pub fn status(&self) -> Option<&'a StatusSocket<'a>> {
+        self.status
+    }
+
+    /// The path of the image.
+    pub fn path(&self) -> &'a str {
+        self.path
     }
 
     /// Whether all is told that happens.
@@ -234,9 +267,8 @@ impl<'a, R: Wait + Clock> ServerLog<'a, R> {
         let mut lines = self.lines.lines.lock(self.rt);
         if lines.is_due(self.rt, topic) {
             lines.tell_left_out(self.path);
-            if !lines.add(self.path, text) {
-                lines.left_out = lines.left_out.saturating_add(1);
-            }
+            let path = self.path;
+            lines.add(format_args!("{path}: {text}"));
         } else {
             lines.left_out = lines.left_out.saturating_add(1);
         }
@@ -244,10 +276,14 @@ impl<'a, R: Wait + Clock> ServerLog<'a, R> {
         self.lines.added.notify_one();
     }
 
-    /// Waits for a second at most until all lines are written, the count of those that were left out last.
-    pub fn finish(&self) {
+    /// Tells how many lines were left out, and then the last line, if there is one. Waits for a second at most until all are written.
+    pub fn finish(&self, last: &[u8]) {
         let mut lines = self.lines.lines.lock(self.rt);
         lines.tell_left_out(self.path);
+        if !last.is_empty() {
+            // With no room for it, the exit status alone tells.
+            let _ = lines.has_added_bytes(last);
+        }
         self.lines.added.notify_one();
         let is_unwritten = |lines: &mut Lines| lines.is_writing || !lines.waiting.is_empty();
         let _written = self.lines.written.wait_timeout_while(
@@ -319,6 +355,14 @@ impl<'a, R: Wait + Clock> ServerLog<'a, R> {
                 "client {client} {way} after {requests} requests, {bytes_read} bytes read and {bytes_written} written"
             ),
         );
+    }
+}
+
+/// Lines about the device's file; none is held back.
+impl<'a, R: Wait + Clock> FileLines for ServerLog<'a, R> {
+    fn tell_line<T: Display + Drop>(&self, line: T) {
+        self.lines.lines.lock(self.rt).add(line);
+        self.lines.added.notify_one();
     }
 }
 

@@ -7,7 +7,6 @@ use crate::meter::Meter;
 use crate::server_log::{LogLines, ServerLog, ServerWatch};
 use crate::status_socket::StatusSocket;
 use crate::teller::Teller;
-use crate::timed_file::TimedFile;
 use crate::watched_file::WatchedFile;
 use disk_model::{Disk, FileDisk};
 use export::OpenDevice;
@@ -28,13 +27,17 @@ use std::sync::Wait;
 use std::thread::Threads;
 use std::time::{Duration, Instant};
 
-// Opens a device, serves it at each address, or where there is none at the sockets that were handed over, and gives the exit status.
+// Room for the line that says how a server has ended.
+const LAST_LINE: usize = 128;
+
+// Opens a device, serves it at each address, or where there is none at the sockets that were handed over, and gives the exit status. From
+// here on no line about the device waits for whoever reads it.
 pub fn serve_at<R: Threads + Wait + Clock + Copy + Send + Sync + Drop + 'static>(
     rt: &HostRuntime,
     threads: &R,
     teller: Teller,
     path: &str,
-    disk: FileDisk<ToldFile<'_, File>>,
+    disk: FileDisk<ToldFile<'_, File, HostRuntime>>,
     beside: Option<File>,
     guard: Option<&LockGuard<'_>>,
     addresses: &[Address<'_>],
@@ -42,18 +45,27 @@ pub fn serve_at<R: Threads + Wait + Clock + Copy + Send + Sync + Drop + 'static>
     name: ServedName<'_>,
     options: ServeOptions,
 ) -> u8 {
+    let Ok(lines) = LogLines::start(rt, threads) else {
+        return exit_status(Err(Refusal::NoMemory), &mut rt.stderr());
+    };
+    let log = ServerLog::new(threads, &lines, path, teller.is_verbose());
     let outcome = match Name::of(rt, teller, name) {
         Err(refusal) => Err(refusal),
         Ok(name) => match status {
             None => serve_logged(
-                rt, threads, teller, path, disk, beside, guard, None, addresses, &name, options,
+                rt, teller, log, disk, beside, guard, addresses, &name, options,
             ),
             Some(at) => serve_told(
-                rt, threads, teller, path, disk, beside, guard, at, addresses, &name, options,
+                rt, teller, log, disk, beside, guard, at, addresses, &name, options,
             ),
         },
     };
-    exit_status(outcome, &mut rt.stderr())
+    let mut last = [0; LAST_LINE];
+    let mut room = last.as_mut_slice();
+    let exit = exit_status(outcome, &mut room);
+    let length = LAST_LINE.saturating_sub(room.len());
+    log.finish(last.get(..length).unwrap_or(&[]).trim_ascii_end());
+    exit
 }
 
 // The name by which clients ask for the export.
@@ -101,10 +113,9 @@ fn random_number(rt: &HostRuntime) -> io::Result<u64> {
 // Serves a device whose figures are told at a socket.
 fn serve_told<R: Threads + Wait + Clock + Copy + Send + Sync + Drop + 'static>(
     rt: &HostRuntime,
-    threads: &R,
     teller: Teller,
-    path: &str,
-    disk: FileDisk<ToldFile<'_, File>>,
+    log: ServerLog<'_, R>,
+    disk: FileDisk<ToldFile<'_, File, HostRuntime>>,
     beside: Option<File>,
     guard: Option<&LockGuard<'_>>,
     status: &str,
@@ -115,10 +126,10 @@ fn serve_told<R: Threads + Wait + Clock + Copy + Send + Sync + Drop + 'static>(
     let Ok(meter) = Meter::new(rt.alloc(), rt) else {
         return Err(Refusal::NoMemory);
     };
-    let socket = open_status(rt, teller, path, status, &meter)?;
-    let told = Some(&socket);
+    let socket = open_status(rt, teller, log.path(), status, &meter)?;
+    let log = log.with_status(&socket);
     let outcome = serve_logged(
-        rt, threads, teller, path, disk, beside, guard, told, addresses, name, options,
+        rt, teller, log, disk, beside, guard, addresses, name, options,
     );
     // If it can't be removed the next server replaces it.
     let _ = fs::remove_file(rt, status);
@@ -146,21 +157,16 @@ fn open_status<'a>(
 // Opens the device and serves it, with a log.
 fn serve_logged<'a, R: Threads + Wait + Clock + Copy + Send + Sync + Drop + 'static>(
     rt: &HostRuntime,
-    threads: &'a R,
     teller: Teller,
-    path: &'a str,
-    disk: FileDisk<ToldFile<'a, File>>,
+    log: ServerLog<'a, R>,
+    disk: FileDisk<ToldFile<'a, File, HostRuntime>>,
     beside: Option<File>,
     guard: Option<&'a LockGuard<'a>>,
-    status: Option<&'a StatusSocket<'a>>,
     addresses: &[Address<'_>],
     name: &Name,
     options: ServeOptions,
 ) -> Result<(), Refusal> {
-    let Ok(lines) = LogLines::start(rt, threads) else {
-        return Err(Refusal::NoMemory);
-    };
-    let log = ServerLog::new(threads, &lines, path, teller.is_verbose(), status);
+    let threads = log.threads();
     let watch = match guard {
         Some(guard) => Some(guard.watch),
         None => None,
@@ -171,36 +177,32 @@ fn serve_logged<'a, R: Threads + Wait + Clock + Copy + Send + Sync + Drop + 'sta
                 file,
                 rt: threads,
                 watch,
+                syncs: None,
             },
             log,
         }),
         None => None,
     };
     let size = disk.size();
-    let file = TimedFile {
-        file: WatchedFile {
-            file: disk.into_file(),
-            rt: threads,
-            watch,
-        },
-        rt: *rt,
-        syncs: match status {
+    let file = WatchedFile {
+        file: disk.into_file().tell_by(log),
+        rt: threads,
+        watch,
+        syncs: match log.status() {
             Some(socket) => Some(&socket.meter.syncs),
             None => None,
         },
     };
-    let outcome = match open_device(rt, log, FileDisk::new(file, size), beside) {
+    match open_device(rt, log, FileDisk::new(file, size), beside) {
         Ok(device) => listen(
             rt, threads, teller, log, guard, device, addresses, name, options,
         ),
         Err(refusal) => Err(refusal),
-    };
-    log.finish();
-    outcome
+    }
 }
 
 // The device of a server.
-type ServedDisk<'a, R> = FileDisk<TimedFile<'a, WatchedFile<'a, ToldFile<'a, File>, R>>>;
+type ServedDisk<'a, R> = FileDisk<WatchedFile<'a, ToldFile<'a, File, ServerLog<'a, R>>, R>>;
 
 // Opens a device, and tells how many commands that has recovered.
 fn open_device<'a, 'b, R: Wait + Clock>(

@@ -13,4 +13,4 @@ pub use client::Client;
 pub use listener::Listener;
 pub use log::{Event, Log, Traffic, Watched};
 pub use request_handler::RequestHandler;
-pub use serving::serve;
+pub use serving::{read_to_end_of, serve};

@@ -104,6 +104,12 @@ fn new_registry(
 }
 
 fn close_behind<R: Wait + Clock, I: Read + Drop>(rt: &R, registry: &ClientRegistry, input: I) {
+    read_to_end_of(rt, input);
+    registry.close(rt);
+}
+
+/// Waits until an input has ended or fails; its bytes are dropped.
+pub fn read_to_end_of<R: Wait, I: Read + Drop>(rt: &R, input: I) {
     let mut input = input;
     let mut passed = [0; 512];
     for _ in rt.forever() {
@@ -114,7 +120,6 @@ fn close_behind<R: Wait + Clock, I: Read + Drop>(rt: &R, registry: &ClientRegist
             Err(_) => break,
         }
     }
-    registry.close(rt);
 }
 
 fn serve_over<B, D, H, R, G>(
@@ -252,115 +257,83 @@ where
     thread::scope(
         thread::scope_env(),
         rt,
-        move |scope| start_threads(scope, server),
+        move |scope| server.start_threads(scope),
     )
 }
 
-// Starts the threads, and tells that clients are served. If not as many workers can be started, fewer clients are served at a time;
-// without any other thread, nobody is.
-fn start_threads<'s, E, B, D, H, R, G>(
-    scope: &Scope<'s, E>,
-    server: &'s Server<'s, B, D, H, R, G>,
-) -> Result<(), Refusal>
+impl<'a, B, D, H, R, G> Server<'a, B, D, H, R, G>
 where
-    B: ExportName + Send + Sync + 's,
-    D: Disk + Send + 's,
-    H: ReadBeside + Send + Sync + 's,
-    R: Wait + Clock + Sync + 's,
-    G: SyncPoints + Log + Copy + Send + Sync + 's,
+    B: ExportName + Send + Sync,
+    D: Disk + Send,
+    H: ReadBeside + Send + Sync,
+    R: Wait + Clock + Sync,
+    G: SyncPoints + Log + Copy + Send + Sync,
 {
-    if !start_workers(scope, server) {
-        return Err(Refusal::NoMemory);
+    // Starts the threads, and tells that clients are served. If not as many workers can be started, fewer clients are served at a time;
+    // without any other thread, nobody is.
+    fn start_threads<'s, E>(&'s self, scope: &Scope<'s, E>) -> Result<(), Refusal> {
+        if !self.start_workers(scope) {
+            return Err(Refusal::NoMemory);
+        }
+        let registry = self.pool.registry();
+        if !self.start_accepting(scope) {
+            registry.close(self.rt);
+            return Err(Refusal::NoMemory);
+        }
+        if self.watch.announce().is_err() {
+            registry.close(self.rt);
+            return Err(Refusal::StreamFault);
+        }
+        Ok(())
     }
-    let registry = server.pool.registry();
-    if !start_accepting(scope, server) {
-        registry.close(server.rt);
-        return Err(Refusal::NoMemory);
-    }
-    if server.watch.announce().is_err() {
-        registry.close(server.rt);
-        return Err(Refusal::StreamFault);
-    }
-    Ok(())
-}
 
-// Starts the guards of the device and a thread for each listener; whether all are there.
-fn start_accepting<'s, E, B, D, H, R, G>(
-    scope: &Scope<'s, E>,
-    server: &'s Server<'s, B, D, H, R, G>,
-) -> bool
-where
-    B: ExportName + Send + Sync + 's,
-    D: Disk + Send + 's,
-    H: ReadBeside + Send + Sync + 's,
-    R: Wait + Clock + Sync + 's,
-    G: SyncPoints + Log + Copy + Send + Sync + 's,
-{
-    for at in 0..server.watch.guards() {
-        if !start(scope, server, Task::Guard(at)) {
+    // Starts the guards of the device and a thread for each listener; whether all are there.
+    fn start_accepting<'s, E>(&'s self, scope: &Scope<'s, E>) -> bool {
+        for at in 0..self.watch.guards() {
+            if !self.start(scope, Task::Guard(at)) {
+                return false;
+            }
+        }
+        for at in 0..self.pool.registry().doors() {
+            if !self.start(scope, Task::Accept(at)) {
+                return false;
+            }
+        }
+        true
+    }
+
+    // Starts a flusher, a checkpointer and workers; whether a worker is among them. There is none without a flusher, for whose end the
+    // checkpointer waits.
+    fn start_workers<'s, E>(&'s self, scope: &Scope<'s, E>) -> bool {
+        if !self.start(scope, Task::Flush) {
             return false;
         }
-    }
-    for at in 0..server.pool.registry().doors() {
-        if !start(scope, server, Task::Accept(at)) {
-            return false;
+        let mut started = 0;
+        if self.start(scope, Task::Checkpoint) {
+            for at in 0..self.options.workers {
+                if !self.start(scope, Task::Work) {
+                    break;
+                }
+                started = at + 1;
+            }
         }
-    }
-    true
-}
-
-// Starts a flusher, a checkpointer and workers; whether a worker is among them. There is none without a flusher, for whose end the
-// checkpointer waits.
-fn start_workers<'s, E, B, D, H, R, G>(
-    scope: &Scope<'s, E>,
-    server: &'s Server<'s, B, D, H, R, G>,
-) -> bool
-where
-    B: ExportName + Send + Sync + 's,
-    D: Disk + Send + 's,
-    H: ReadBeside + Send + Sync + 's,
-    R: Wait + Clock + Sync + 's,
-    G: SyncPoints + Log + Copy + Send + Sync + 's,
-{
-    if !start(scope, server, Task::Flush) {
-        return false;
-    }
-    let mut started = 0;
-    if start(scope, server, Task::Checkpoint) {
-        for at in 0..server.options.workers {
-            if !start(scope, server, Task::Work) {
+        // The flusher ends once all passes have left.
+        for _ in started..self.options.workers {
+            if let Some((slot, pass)) = self.pool.take_pass(self.rt) {
+                self.retire(slot, pass);
+            }
+        }
+        // Where not as many can be made, fewer ask for figures at a time.
+        for _ in 0..self.watch.answerers() {
+            if !self.start(scope, Task::Answer) {
                 break;
             }
-            started = at + 1;
         }
+        started > 0
     }
-    // The flusher ends once all passes have left.
-    for _ in started..server.options.workers {
-        if let Some((slot, pass)) = server.pool.take_pass(server.rt) {
-            server.retire(slot, pass);
-        }
-    }
-    // Where not as many can be made, fewer ask for figures at a time.
-    for _ in 0..server.watch.answerers() {
-        if !start(scope, server, Task::Answer) {
-            break;
-        }
-    }
-    started > 0
-}
 
-// Starts a thread for a task; whether there is one.
-fn start<'s, E, B, D, H, R, G>(
-    scope: &Scope<'s, E>,
-    server: &'s Server<'s, B, D, H, R, G>,
-    task: Task,
-) -> bool
-where
-    B: ExportName + Send + Sync + 's,
-    D: Disk + Send + 's,
-    H: ReadBeside + Send + Sync + 's,
-    R: Wait + Clock + Sync + 's,
-    G: SyncPoints + Log + Copy + Send + Sync + 's,
-{
-    scope.spawn(move || server.run(task)).is_ok()
+    // Starts a thread for a task; whether there is one.
+    fn start<'s, E>(&'s self, scope: &Scope<'s, E>, task: Task) -> bool {
+        scope.spawn(move || self.run(task)).is_ok()
+    }
 }
