@@ -6,10 +6,9 @@
  * SLOW_SYNC_US=5000 LD_PRELOAD=$PWD/slow_sync.so nbdj serve ...
  */
 #define _GNU_SOURCE
-#include <dlfcn.h>
+#include "before_calls.h"
 #include <stdlib.h>
 #include <time.h>
-#include <unistd.h>
 
 static void wait_for_the_drive(const char *variable)
 {
@@ -21,37 +20,14 @@ static void wait_for_the_drive(const char *variable)
             ;
 }
 
-typedef int sync_call(int);
-typedef ssize_t write_call(int, const void *, size_t, off_t);
+static void before_read(void) {}
 
-ssize_t pwrite(int file, const void *from, size_t count, off_t offset)
+static void before_write(void)
 {
-    static write_call *next;
-    if (!next)
-        next = (write_call *)dlsym(RTLD_NEXT, "pwrite");
     wait_for_the_drive("SLOW_WRITE_US");
-    return next(file, from, count, offset);
 }
 
-ssize_t pwrite64(int file, const void *from, size_t count, off_t offset)
+static void before_sync(void)
 {
-    return pwrite(file, from, count, offset);
-}
-
-int fdatasync(int file)
-{
-    static sync_call *next;
-    if (!next)
-        next = (sync_call *)dlsym(RTLD_NEXT, "fdatasync");
     wait_for_the_drive("SLOW_SYNC_US");
-    return next(file);
-}
-
-int fsync(int file)
-{
-    static sync_call *next;
-    if (!next)
-        next = (sync_call *)dlsym(RTLD_NEXT, "fsync");
-    wait_for_the_drive("SLOW_SYNC_US");
-    return next(file);
 }
