@@ -1,5 +1,5 @@
 #!/usr/bin/env python3
-"""Databases under load, and how they are judged after a power cut: SQLite, and PostgreSQL where it is installed.
+"""Databases under load, and how they are judged after a power cut: SQLite, and PostgreSQL and MariaDB if they are installed.
 
 Each load commits rows numbered 1, 2, .. and moves money between accounts. So after a cut no number may be missing before the last one, and
 the sum of all accounts stays.
@@ -259,6 +259,100 @@ class Postgres:
         status, text = self.command("pg_checksums", "--check", "-D", f"{folder}/postgres", check=False)
         if status:
             wrong.append(f"postgres: pg_checksums: {text[:150]!r}")
+        return wrong, last
+
+
+class MariaDb:
+    """A server of MariaDB with InnoDB: direct I/O, a sync at each commit and the doublewrite buffer, as by default."""
+
+    name = "mariadb"
+    program = "/usr/sbin/mariadbd"
+    is_there = os.path.exists(program) and os.path.exists("/usr/bin/innochecksum")
+    tables = ("numbers", "accounts")
+
+    def make(self, folder, room):
+        data = f"{folder}/mariadb"
+        os.makedirs(data)
+        run(["chown", "mysql", data])
+        run(["mariadb-install-db", "--no-defaults", "--user=mysql", f"--datadir={data}", "--auth-root-authentication-method=normal", "--skip-test-db",
+             "--innodb-log-file-size=16M"])
+        self.launch(folder, room)
+        self.query(room, "create database bank; use bank; create table numbers(number int primary key, text varchar(40)) engine=innodb; "
+                         "create table accounts(id int primary key, balance int, padding varbinary(300)) engine=innodb; "
+                         f"insert into accounts select seq, 1000, repeat('x', 300) from seq_0_to_{ACCOUNTS - 1}")
+        self.stop()
+
+    def launch(self, folder, room, *settings):
+        os.makedirs(room, exist_ok=True)
+        os.chmod(room, 0o777)
+        self.process = subprocess.Popen([self.program, "--no-defaults", "--user=mysql", f"--datadir={folder}/mariadb", f"--socket={room}/mariadb.sock",
+                                         "--skip-networking", "--innodb-buffer-pool-size=16M", "--innodb-log-file-size=16M", "--innodb-flush-method=O_DIRECT",
+                                         f"--log-error={room}/mariadb.log", "--innodb-max-dirty-pages-pct-lwm=1", *settings],
+                                        env=ENVIRONMENT, stdin=subprocess.DEVNULL, stdout=subprocess.DEVNULL, stderr=subprocess.DEVNULL, cwd="/")
+        for _ in range(1200):
+            status, _ = run(["mariadb-admin", "--no-defaults", "-uroot", "-S", f"{room}/mariadb.sock", "ping"], check=False)
+            if status == 0:
+                return
+            if self.process.poll() is not None:
+                break
+            time.sleep(0.05)
+        with open(f"{room}/mariadb.log", errors="replace", encoding="utf-8") as file:
+            raise RuntimeError(f"mariadbd doesn't start: {file.read()[-300:]!r}")
+
+    def stop(self):
+        self.process.terminate()
+        try:
+            self.process.wait(30)
+        except subprocess.TimeoutExpired:
+            self.kill()
+
+    def query(self, room, text):
+        return run(["mariadb", "--no-defaults", "-uroot", "-S", f"{room}/mariadb.sock", "-N", "-B", "-e", text]).strip()
+
+    def start(self, folder, room):
+        self.launch(folder, room)
+        client = subprocess.Popen(["mariadb", "--no-defaults", "-uroot", "-S", f"{room}/mariadb.sock", "-N", "-B", "-n", "bank"], env=ENVIRONMENT,
+                                  stdin=subprocess.PIPE, stdout=subprocess.PIPE, stderr=subprocess.DEVNULL)
+        drawn, commits = random.Random(), Commits()
+
+        def statements(number):
+            one, other = drawn.sample(range(ACCOUNTS), 2)
+            return (f"begin; insert into numbers values({number}, '{text_of(number)}'); update accounts set balance = balance - 7 where id = {one}; "
+                    f"update accounts set balance = balance + 7 where id = {other}; commit; select {number};\n")
+
+        self.client = client
+        feed(client, statements, commits)
+        return commits
+
+    def kill(self):
+        if client := getattr(self, "client", None):
+            client.kill()
+            client.wait()
+        self.process.kill()
+        self.process.wait()
+
+    def judge(self, folder, room):
+        wrong, last = [], 0
+        try:
+            self.launch(folder, room, "--innodb-flush-log-at-trx-commit=0")
+        except RuntimeError as error:
+            return [str(error)], 0
+        try:
+            count, last = map(int, self.query(room, "select count(*), coalesce(max(number), 0) from bank.numbers").split())
+            if count != last:
+                wrong.append(f"mariadb: {count} rows up to {last}")
+            if (sums := self.query(room, "select sum(balance), count(*) from bank.accounts").split()) != [str(1000 * ACCOUNTS), str(ACCOUNTS)]:
+                wrong.append(f"mariadb: sums {sums}")
+            for table in self.tables:
+                if not (said := self.query(room, f"check table bank.{table} extended")).endswith("OK"):
+                    wrong.append(f"mariadb: check table {table}: {said[:150]!r}")
+        except RuntimeError as error:
+            wrong.append(f"mariadb: {str(error)[-200:]!r}")
+        self.stop()
+        for table in self.tables:
+            status, text = run(["innochecksum", f"{folder}/mariadb/bank/{table}.ibd"], check=False)
+            if status:
+                wrong.append(f"mariadb: innochecksum {table}: {text[:120]!r}")
         return wrong, last
 
 
