@@ -43,7 +43,7 @@ impl Model for AllocMap {
     ghost invariant = { λ map. IsMap map.blocks map.bytes.items };
 }
 
-// The bytes of the map of `blocks` blocks.
+// The bytes of the map of so many blocks.
 fn map_bytes(blocks: u64) -> usize
     requires { blocks ≤ 16777216 }
     ensures { result ≡ map_bytes_of blocks }

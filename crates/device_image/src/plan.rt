@@ -58,7 +58,7 @@ fn kind_given(touch: LastTouch) -> Kind
     }
 }
 
-/// The map after an area of an image of `blocks` blocks; this is the one before. It takes memory for one map and for
+/// The map after an area of an image of so many blocks, where this is the one before. It takes memory for one map and for
 /// the last touches. Refusal 0 (no memory).
 pub fn map_behind(
     alloc: Global,
@@ -141,7 +141,7 @@ impl CopyPlan {
         self.map.is_some()
     }
 
-    /// The next blocks to copy, at most `most`.
+    /// The next blocks to copy, at most so many.
     pub fn next_copy(&self, most: u32) -> Option<PutRange>
         requires { 1 ≤ most }
         ensures some { IfSome result (IsNextCopy self.now most) }

@@ -49,7 +49,7 @@ unsafe impl<T: Send> Send for Cells<T> {}
 
 unsafe impl<T: Sync> Sync for Cells<T> {}
 
-// The right to free this many cells, once. It takes no bytes, and neither it nor the cells can be forgotten.
+// The right to free so many cells, once. It takes no bytes, and neither it nor the cells can be forgotten.
 pub struct Deed<T, A: Allocator> {
     mark: PhantomData<*const (T, A)>,
     ghost at: { Ptr },
@@ -68,7 +68,7 @@ unsafe impl<T, A: Allocator + Send> Send for Deed<T, A> {}
 // A `&` to it holds nothing.
 unsafe impl<T, A: Allocator> Sync for Deed<T, A> {}
 
-// Cells that were never written, whose memory isn't touched.
+// So many cells that were never written, whose memory isn't touched.
 pub fn allocate<T, A: Allocator>(
     alloc: &A,
     len: usize,

@@ -56,7 +56,7 @@ fn start(frames: u32, place: Place) -> u32
 }
 
 impl FrameLists {
-    // This many frames, which are free, in ascending order.
+    // So many frames, which are free, in ascending order.
     pub fn new(alloc: Global, frames: u32) -> Result<FrameLists, AllocError>
         requires { frames + 3 < 2 ^ 31 }
         ensures { IfOk result (λ lists. lists ≡ record {

@@ -34,7 +34,7 @@ impl Model for Nodes {
 }
 
 impl Nodes {
-    // This many nodes in a ring in ascending order, with no numbers.
+    // So many nodes in a ring in ascending order, with no numbers.
     pub fn ring(alloc: Global, count: u32) -> Result<Nodes, AllocError>
         requires some { 0 < count }
         requires few { count < 2 ^ 31 }
