@@ -68,6 +68,10 @@ pub(crate) struct CommitQueue<B: ExportName> {
     // The greatest number that somebody waits for, and how many wait.
     wanted: u64,
     waiters: Waiters,
+    // Whether a group was sealed that isn't stored yet, nor pending again. There is one at a time.
+    is_storing: bool,
+    // Whether the flusher is to store the next group, though threads wait that could.
+    calls_flusher: bool,
     // Whether a group didn't fit the area, and no other area has been taken into use since.
     is_full: bool,
     // Whether a command had no room, and no frame has been let go since.
@@ -100,6 +104,8 @@ impl<B: ExportName> Drop for CommitQueue<B> {
             passes: _,
             wanted: _,
             waiters: _,
+            is_storing: _,
+            calls_flusher: _,
             is_full: _,
             lacks_room: _,
             wish: _,
@@ -162,6 +168,8 @@ impl<B: ExportName> CommitQueue<B> {
             passes,
             wanted: 0,
             waiters: Waiters::new(),
+            is_storing: false,
+            calls_flusher: false,
             is_full: false,
             lacks_room: false,
             wish: None,
@@ -260,7 +268,7 @@ impl<B: ExportName> CommitQueue<B> {
         // Where the bytes come back order and pass are as they were, and the rest of the queue is always.
         ensures unchanged { OnErr result ((self.new.order ≡ self.old.order) × (pass.new ≡ pass.old)) }
         ensures rest { (self.new.frames ≡ self.old.frames) × (self.new.passes ≡ self.old.passes) × (self.new.wanted ≡ self.old.wanted)
-            × (self.new.waiters ≡ self.old.waiters) × (self.new.is_full ≡ self.old.is_full) × (self.new.lacks_room ≡ self.old.lacks_room)
+            × (self.new.waiters ≡ self.old.waiters) × (self.new.is_storing ≡ self.old.is_storing) × (self.new.calls_flusher ≡ self.old.calls_flusher) × (self.new.is_full ≡ self.old.is_full) × (self.new.lacks_room ≡ self.old.lacks_room)
             × (self.new.wish ≡ self.old.wish) × (self.new.is_flushed ≡ self.old.is_flushed) × (self.new.cannot_store ≡ self.old.cannot_store) × (self.new.cannot_copy ≡ self.old.cannot_copy) × (self.new.most_pending ≡ self.old.most_pending) × (self.new.interval ≡ self.old.interval)
             × (self.new.throttle ≡ self.old.throttle) × (self.new.notes ≡ self.old.notes) }
     {
@@ -383,12 +391,13 @@ impl<B: ExportName> CommitQueue<B> {
         self.is_flushed = true;
     }
 
-    /// Somebody waits for a number.
+    /// The flusher is to store all up to a number.
     pub(crate) fn want(&mut self, number: u64)
         ensures settled { self.new.settled ≡ self.old.settled }
         ensures order { self.new.order ≡ self.old.order }
     {
         self.wanted = self.wanted.max(number);
+        self.calls_flusher = true;
     }
 
     /// Somebody begins to wait until a number is durable, which it isn't.
@@ -397,7 +406,35 @@ impl<B: ExportName> CommitQueue<B> {
     {
         let is_sealed = number <= self.order.order().sealed();
         self.waiters.join(is_sealed);
-        self.want(number);
+        self.wanted = self.wanted.max(number);
+    }
+
+    /// Whether a group is being stored.
+    pub(crate) fn is_storing(&self) -> bool {
+        self.is_storing
+    }
+
+    /// Whether the thread that waits is to store the next group itself: it waits alone, nobody stores a group, and nothing else calls
+    /// the flusher. If several wait the flusher stores one group after another without a thread to be woken between two.
+    pub(crate) fn may_lead(&self) -> bool {
+        self.is_group_due() && !self.needs_flusher()
+    }
+
+    /// Whether the flusher is to store the next group.
+    pub(crate) fn needs_flusher(&self) -> bool {
+        self.is_group_due()
+            && (self.calls_flusher
+                || self.lacks_room
+                || self.passes == 0
+                || !self.waiters.are_one()
+                || self.has_much_pending())
+    }
+
+    /// The flusher is to store the next group.
+    pub(crate) fn call_flusher(&mut self)
+        ensures { self.new.settled ≡ self.old.settled }
+    {
+        self.calls_flusher = true;
     }
 
     /// Whether more are expected to wait for the next group, and nothing asks for it at once. With one pass nobody else comes.
@@ -487,10 +524,10 @@ impl<B: ExportName> CommitQueue<B> {
         &mut self.interval
     }
 
-    /// Whether the next group is to be stored. There is none in hand.
-    pub(crate) fn is_group_due(&self) -> bool {
+    // Whether the next group is to be stored now.
+    fn is_group_due(&self) -> bool {
         let durable = self.order.order().durable();
-        if self.is_full || durable == self.order.order().mark() {
+        if self.is_storing || self.is_full || durable == self.order.order().mark() {
             return false;
         }
         durable < self.wanted || self.lacks_room || self.passes == 0 || self.has_much_pending()
@@ -598,22 +635,33 @@ impl<B: ExportName> CommitQueue<B> {
         let sealed = self.order.seal(board)?;
         if sealed.is_some() {
             self.notes.seal(now);
+            self.is_storing = true;
         }
         if self.order.order().sealed() == self.order.order().mark() {
             self.waiters.seal();
+            self.calls_flusher = false;
         }
         Ok(sealed)
+    }
+
+    /// Makes a group pending again, which the flusher is to store.
+    pub(crate) fn put_back(&mut self, board: &Board<B>, sealed: SealedGroup<B>)
+        ensures { self.new.settled ≡ self.old.settled }
+    {
+        self.waiters.put_back();
+        if let Err(other) = self.order.put_back(board, sealed) {
+            // One group is sealed at a time, so it is the one in hand.
+            other.let_go();
+        }
+        self.is_storing = false;
+        self.calls_flusher = true;
     }
 
     /// Makes a group pending again, which the area had no room for, and wants a checkpoint.
     pub(crate) fn take_back(&mut self, board: &Board<B>, sealed: SealedGroup<B>)
         ensures { self.new.settled ≡ self.old.settled }
     {
-        self.waiters.put_back();
-        if let Err(other) = self.order.put_back(board, sealed) {
-            // There is one thread that seals, so it is the one in hand.
-            other.let_go();
-        }
+        self.put_back(board, sealed);
         self.is_full = true;
         self.wish_checkpoint();
     }
@@ -639,6 +687,7 @@ impl<B: ExportName> CommitQueue<B> {
         ensures { self.new.settled ≡ self.old.settled }
     {
         engine.publish(board, &mut self.order);
+        self.is_storing = false;
         let is_pending = self.is_pending();
         self.notes.publish(is_pending);
         self.notes.note_journal(engine.journal_use());

@@ -36,8 +36,8 @@ impl<B: ExportName, D: Disk, H: ReadBeside> Export<B, D, H> {
     /// requests that wait for room are answered ENOMEM and those that wait to be stored EIO, until a group is stored. Once it has gone on
     /// for ten and all passes have left, it ends, and what is pending is lost.
     ///
-    /// A group is sealed a little later than somebody waits for it, where storing one takes long and more are likely to wait
-    /// for the same one.
+    /// A thread that waits alone stores the next group itself, if nothing else calls the flusher. A group is sealed a little later than
+    /// somebody waits for it, where storing one takes long and more are likely to wait for the same one.
     pub fn flusher<R: Wait + Clock, G: SyncPoints>(&self, rt: &R, points: &mut G) {
         self.store_groups(rt, points);
         self.queue.lock(rt).end();
@@ -51,13 +51,7 @@ impl<B: ExportName, D: Disk, H: ReadBeside> Export<B, D, H> {
         let mut in_hand = None;
         for _ in rt.forever() {
             let step = match in_hand {
-                Some(group) => self.store_group(
-                    rt,
-                    points,
-                    &mut pace,
-                    &mut self.engine.lock(rt),
-                    group,
-                ),
+                Some(group) => self.store_next(rt, points, &mut pace, group),
                 None => self.next_group(rt, &mut pace),
             };
             let Some(next) = self.after_step(rt, points, &mut retries, step) else {
@@ -117,7 +111,7 @@ impl<B: ExportName, D: Disk, H: ReadBeside> Export<B, D, H> {
         if queue.stopped() || queue.is_done() {
             return Flush::Ended;
         }
-        if !queue.is_group_due() {
+        if !queue.needs_flusher() {
             self.wait_for_work(rt, queue);
             return Flush::Waited;
         }
@@ -134,43 +128,99 @@ impl<B: ExportName, D: Disk, H: ReadBeside> Export<B, D, H> {
         }
     }
 
-    // Stores a group under the keeper's lock.
-    fn store_group<R: Wait + Clock, G: SyncPoints>(
+    // Stores the group that the flusher has sealed.
+    fn store_next<R: Wait + Clock, G: SyncPoints>(
         &self,
         rt: &R,
         points: &mut G,
         pace: &mut Pace,
-        engine: &mut StorageEngine<B, D>,
         group: SealedGroup<B>,
     ) -> Flush<B> {
+        let begin = Instant::now(rt).ok();
+        match self.store_group(rt, points, group) {
+            Ok(()) => {
+                pace.note(rt, begin);
+                Flush::Done
+            }
+            Err(group) => Flush::NoMemory(Some(group)),
+        }
+    }
+
+    /// The next group, if the thread that asks is to store it: it waits itself for what is pending. None leaves that to the flusher, if
+    /// nobody stores a group.
+    pub(crate) fn lead<R: Wait + Clock>(
+        &self,
+        rt: &R,
+        queue: &mut CommitQueue<B>,
+    ) -> Option<SealedGroup<B>> {
+        if queue.is_storing() {
+            return None;
+        }
+        if queue.may_lead() {
+            match queue.seal(&self.board, Instant::now(rt).ok()) {
+                Ok(Some(group)) => return Some(group),
+                Ok(None) | Err(_) => {}
+            }
+        }
+        queue.call_flusher();
+        self.signals.work.notify_one();
+        None
+    }
+
+    /// Stores a group that a waiting thread has sealed. If memory is refused the flusher tries again.
+    pub(crate) fn store_led<R: Wait + Clock, G: SyncPoints>(
+        &self,
+        rt: &R,
+        points: &mut G,
+        group: SealedGroup<B>,
+    ) {
+        match self.store_group(rt, points, group) {
+            Ok(()) => {}
+            Err(group) => {
+                self.queue.lock(rt).put_back(&self.board, group);
+                self.signals.work.notify_one();
+            }
+        }
+    }
+
+    // Stores a group under the keeper's lock. It comes back if memory is refused.
+    fn store_group<R: Wait + Clock, G: SyncPoints>(
+        &self,
+        rt: &R,
+        points: &mut G,
+        group: SealedGroup<B>,
+    ) -> Result<(), SealedGroup<B>> {
+        let mut engine = self.engine.lock(rt);
         let begin = Instant::now(rt).ok();
         points.reach(Point::Append);
         match engine.append(&self.board, group) {
             Ok(stored) => {
-                pace.note(rt, begin);
                 tell_stored(points, stored, time_since(rt, begin));
-                self.publish(rt, engine);
-                Flush::Done
+                self.publish(rt, &mut engine);
+                Ok(())
             }
-            Err(Unstored::NoMemory(group)) => Flush::NoMemory(Some(group)),
+            Err(Unstored::NoMemory(group)) => Err(group),
             Err(Unstored::AreaFull(group)) => {
                 // It is pending again, and is stored once another area is in use.
                 self.queue.lock(rt).take_back(&self.board, group);
                 self.signals.notify(false, true);
-                Flush::Done
+                Ok(())
             }
             Err(Unstored::Failed) => {
                 self.fail(rt);
-                Flush::Done
+                Ok(())
             }
         }
     }
 
     // Makes durable what is stored, and tells those who wait.
     fn publish<R: Wait>(&self, rt: &R, engine: &mut StorageEngine<B, D>) {
-        let wanted = self.queue.lock(rt).publish(&self.board, engine);
+        let mut queue = self.queue.lock(rt);
+        let wanted = queue.publish(&self.board, engine);
+        let is_due = queue.needs_flusher();
+        drop(queue);
         self.signals.settled.notify_all();
-        self.signals.notify(false, wanted);
+        self.signals.notify(is_due, wanted);
     }
 
     /// A call of the device has failed, by whichever handle: requests are refused from now on.

@@ -56,6 +56,11 @@ impl Waiters {
         self.sealed = 0;
     }
 
+    /// Whether one thread waits for the next group, and no other one is expected to.
+    pub(crate) fn are_one(&self) -> bool {
+        self.behind == 1 && self.expected <= 1
+    }
+
     /// Whether fewer wait for the next group than are expected.
     pub(crate) fn expects_more(&self) -> bool {
         self.behind < self.expected

@@ -9,6 +9,7 @@ use crate::commit_queue::CommitQueue;
 use crate::export::Export;
 use crate::name::ExportName;
 use crate::retired::RetiredPass;
+use crate::sync_points::SyncPoints;
 use disk_model::Disk;
 use marks::Pass;
 use nbd_wire::Answer;
@@ -66,22 +67,32 @@ impl<B: ExportName, D: Disk, H: ReadBeside> Export<B, D, H> {
 
     /// Asks for what was accepted by now, as a FLUSH does, and waits until that is durable, or never will be. Said is of it what its
     /// pass knew before.
-    pub fn settle<R: Wait>(&self, rt: &R, pass: &mut Pass<B>) -> Answer
+    pub fn settle<R: Wait + Clock, G: SyncPoints>(
+        &self,
+        rt: &R,
+        points: &mut G,
+        pass: &mut Pass<B>,
+    ) -> Answer
         ensures { IsSettled pass.old pass.new result }
     {
         let accepted = self.board.look_accepted(pass);
-        self.wait_for(rt, pass, accepted)
+        self.wait_for(rt, points, pass, accepted)
     }
 
     /// Has all that is accepted by now stored, and waits until it is; the number of the last of it. None if it never will be.
-    pub fn store_accepted<R: Wait>(&self, rt: &R, pass: &mut RetiredPass<B>) -> Option<u64>
+    pub fn store_accepted<R: Wait + Clock, G: SyncPoints>(
+        &self,
+        rt: &R,
+        points: &mut G,
+        pass: &mut RetiredPass<B>,
+    ) -> Option<u64>
         ensures stored { IfSome result (λ number. (known pass.old ≤ number) × (number ≤ pass.new.durable)) }
         ensures knew { IsPrefix pass.old.history pass.new.history }
         ensures lasts { pass.old.durable ≤ pass.new.durable }
         ensures own { pass.new.own ≡ pass.old.own }
     {
         let accepted = self.board.look_accepted(&mut pass.pass);
-        match self.wait_for(rt, &mut pass.pass, accepted) {
+        match self.wait_for(rt, points, &mut pass.pass, accepted) {
             Answer::Done => Some(accepted),
             _answer => None,
         }

@@ -21,12 +21,14 @@ use crate::edges::MissingEdges;
 use crate::export::Export;
 use crate::name::ExportName;
 use crate::retired::RetiredPass;
+use crate::sync_points::SyncPoints;
 use disk_model::{DeviceFault, Disk};
 use image_model::BLOCK_BYTES;
 use marks::{Pass, Told};
 use nbd_wire::{Answer, Errno, FLUSH, Reply, Request, SessionFlags};
 use regions::Regions;
 use request_core::{Action, Blocks, NeedsKeeper, Served, Terms, judge};
+use std::rt::Clock;
 use std::sync::Wait;
 
 /// How often a READ is tried without locks before it waits for the keeper.
@@ -79,9 +81,12 @@ impl<B: ExportName, D: Disk, H: ReadBeside> Export<B, D, H> {
     ///
     /// If a read by the second handle fails, its request gets EIO, and nothing else changes. Requests that wait to be stored get EIO too
     /// once memory for storing has been refused for a second.
-    pub fn submit<R: Wait>(
+    ///
+    /// If it waits until something is stored, it may store a group itself, and then reaches `points`.
+    pub fn submit<R: Wait + Clock, G: SyncPoints>(
         &self,
         rt: &R,
+        points: &mut G,
         pass: &mut Pass<B>,
         request: Request,
         flags: &SessionFlags,
@@ -105,7 +110,7 @@ impl<B: ExportName, D: Disk, H: ReadBeside> Export<B, D, H> {
             Outcome::Answered(answer) => Reply { cookie, answer },
             Outcome::Waits(number) => Reply {
                 cookie,
-                answer: self.wait_for(rt, pass, number),
+                answer: self.wait_for(rt, points, pass, number),
             },
         }
     }
@@ -365,8 +370,14 @@ impl<B: ExportName, D: Disk, H: ReadBeside> Export<B, D, H> {
         served
     }
 
-    // Waits until a number is durable, or will never be.
-    pub(crate) fn wait_for<R: Wait>(&self, rt: &R, pass: &mut Pass<B>, number: u64) -> Answer
+    // Waits until a number is durable, or will never be. It stores a group meanwhile if nobody does.
+    pub(crate) fn wait_for<R: Wait + Clock, G: SyncPoints>(
+        &self,
+        rt: &R,
+        points: &mut G,
+        pass: &mut Pass<B>,
+        number: u64,
+    ) -> Answer
         ensures { IsWaitedFor number pass.old pass.new result }
     {
         if self.board.look_durable(pass) >= number {
@@ -378,7 +389,6 @@ impl<B: ExportName, D: Disk, H: ReadBeside> Export<B, D, H> {
             return Answer::Done;
         }
         queue.begin_wait(number);
-        self.signals.work.notify_one();
         for _ in rt.forever() {
             if self.board.look_durable(pass) >= number {
                 return Answer::Done;
@@ -386,7 +396,14 @@ impl<B: ExportName, D: Disk, H: ReadBeside> Export<B, D, H> {
             if queue.stopped() || queue.cannot_store() {
                 return Answer::Refused(Errno::Io);
             }
-            queue = self.signals.settled.wait(rt, queue);
+            queue = match self.lead(rt, &mut queue) {
+                Some(group) => {
+                    drop(queue);
+                    self.store_led(rt, points, group);
+                    self.queue.lock(rt)
+                }
+                None => self.signals.settled.wait(rt, queue),
+            };
         }
         unreachable!()
     }

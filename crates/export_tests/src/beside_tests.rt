@@ -59,7 +59,7 @@ fn read_turns<B: ExportName, D: Disk, H: ReadBeside, R: Wait + Clock>(
 }
 
 // Writes enough other blocks that all frames are let go and taken again, which takes checkpoints.
-fn write_others<B: ExportName, D: Disk, H: ReadBeside, R: Wait>(
+fn write_others<B: ExportName, D: Disk, H: ReadBeside, R: Wait + Clock>(
     rt: &R,
     alloc: Global,
     export: &Export<B, D, H>,

@@ -33,7 +33,7 @@ struct Done {
 }
 
 // Writes so many blocks from one on.
-fn write_all<B: ExportName, D: Disk, R: Wait>(
+fn write_all<B: ExportName, D: Disk, R: Wait + Clock>(
     rt: &R,
     alloc: Global,
     export: &Export<B, D, ()>,
@@ -51,7 +51,7 @@ fn write_all<B: ExportName, D: Disk, R: Wait>(
 }
 
 // Whether so many blocks from the first one on read back.
-fn read_all<B: ExportName, D: Disk, R: Wait>(
+fn read_all<B: ExportName, D: Disk, R: Wait + Clock>(
     rt: &R,
     alloc: Global,
     export: &Export<B, D, ()>,
@@ -68,7 +68,7 @@ fn read_all<B: ExportName, D: Disk, R: Wait>(
 }
 
 // Two passes write 20 blocks each; one tells the other, which flushes and reads all.
-fn two_passes<B: ExportName, D: Disk, R: Wait>(
+fn two_passes<B: ExportName, D: Disk, R: Wait + Clock>(
     rt: &R,
     alloc: Global,
     export: &Export<B, D, ()>,
@@ -96,7 +96,7 @@ fn two_passes<B: ExportName, D: Disk, R: Wait>(
 
 // One pass leaves, and the other goes on. It writes 20 blocks with a FLUSH behind each, so that a group has one command, and then
 // more than there are frames, so that some wait for room. It reads all of them twice, the first ones from the device.
-fn one_pass_alone<B: ExportName, D: Disk, R: Wait>(
+fn one_pass_alone<B: ExportName, D: Disk, R: Wait + Clock>(
     rt: &R,
     alloc: Global,
     export: &Export<B, D, ()>,

@@ -16,7 +16,7 @@ use std::sync::atomic::{AtomicU64, Ordering};
 use std::thread::{self, Threads};
 
 // Whether one pass reads what another wrote, once it was told; the number that is stored then.
-fn tell_and_read<B: ExportName, R: Wait>(
+fn tell_and_read<B: ExportName, R: Wait + Clock>(
     rt: &R,
     alloc: Global,
     device: OpenDevice<SimDisk, ()>,
@@ -72,7 +72,7 @@ struct Said {
     again: bool,
 }
 
-fn ask<B: ExportName, R: Wait>(
+fn ask<B: ExportName, R: Wait + Clock>(
     rt: &R,
     alloc: Global,
     export: &Export<B, SimDisk, ()>,
@@ -150,7 +150,7 @@ fn flush_now_is_ok_after_publish(rt: HostRuntime) {
 }
 
 // Writes 20 blocks of its own; how many were answered Ok is added up.
-fn write_its_own<B: ExportName, R: Wait>(
+fn write_its_own<B: ExportName, R: Wait + Clock>(
     rt: &R,
     alloc: Global,
     export: &Export<B, SimDisk, ()>,

@@ -8,6 +8,7 @@ use image_model::Geometry;
 use marks::Pass;
 use nbd_wire::{Answer, FLUSH, READ, Request, RequestHead, SessionFlags, TRIM, WRITE};
 use std::alloc::{AllocError, Global};
+use std::rt::Clock;
 use std::sync::Wait;
 
 const PLAIN: SessionFlags = SessionFlags {
@@ -129,7 +130,7 @@ fn is_done(answer: &Answer) -> bool {
 }
 
 // Writes a block; whether it was answered Ok.
-pub fn write_block<B: ExportName, D: Disk, H: ReadBeside, R: Wait>(
+pub fn write_block<B: ExportName, D: Disk, H: ReadBeside, R: Wait + Clock>(
     rt: &R,
     alloc: Global,
     export: &Export<B, D, H>,
@@ -142,11 +143,11 @@ pub fn write_block<B: ExportName, D: Disk, H: ReadBeside, R: Wait>(
     let Some(request) = write_of(alloc, block, round) else {
         return false;
     };
-    is_done(&export.submit(rt, pass, request, &PLAIN).answer)
+    is_done(&export.submit(rt, &mut (), pass, request, &PLAIN).answer)
 }
 
 // Trims a block; whether it was answered Ok.
-pub fn trim_block<B: ExportName, D: Disk, H: ReadBeside, R: Wait>(
+pub fn trim_block<B: ExportName, D: Disk, H: ReadBeside, R: Wait + Clock>(
     rt: &R,
     alloc: Global,
     export: &Export<B, D, H>,
@@ -157,19 +158,23 @@ pub fn trim_block<B: ExportName, D: Disk, H: ReadBeside, R: Wait>(
 {
     is_done(
         &export
-            .submit(rt, pass, trim_of(alloc, block), &PLAIN)
+            .submit(rt, &mut (), pass, trim_of(alloc, block), &PLAIN)
             .answer,
     )
 }
 
 // Flushes; whether it was answered Ok.
-pub fn flush<B: ExportName, D: Disk, H: ReadBeside, R: Wait>(
+pub fn flush<B: ExportName, D: Disk, H: ReadBeside, R: Wait + Clock>(
     rt: &R,
     alloc: Global,
     export: &Export<B, D, H>,
     pass: &mut Pass<B>,
 ) -> bool {
-    is_done(&export.submit(rt, pass, flush_of(alloc), &PLAIN).answer)
+    is_done(
+        &export
+            .submit(rt, &mut (), pass, flush_of(alloc), &PLAIN)
+            .answer,
+    )
 }
 
 // Whether these are the bytes of a block in a round.
@@ -183,7 +188,7 @@ fn are_bytes(block: u64, round: u64, bytes: &[u8]) -> bool {
 }
 
 // Whether a READ of a block gives its bytes of a round.
-pub fn reads_back<B: ExportName, D: Disk, H: ReadBeside, R: Wait>(
+pub fn reads_back<B: ExportName, D: Disk, H: ReadBeside, R: Wait + Clock>(
     rt: &R,
     alloc: Global,
     export: &Export<B, D, H>,
@@ -194,7 +199,7 @@ pub fn reads_back<B: ExportName, D: Disk, H: ReadBeside, R: Wait>(
     requires { block < 2 ^ 24 }
 {
     match export
-        .submit(rt, pass, read_of(alloc, block), &PLAIN)
+        .submit(rt, &mut (), pass, read_of(alloc, block), &PLAIN)
         .answer
     {
         Answer::Bytes(read) => are_bytes(block, round, read.bytes()),

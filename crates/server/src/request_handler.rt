@@ -9,7 +9,7 @@ use crate::client::Client;
 use crate::log::{Event, Log, Traffic};
 use bitflags::Flags;
 use disk_model::Disk;
-use export::{Export, ExportName, ReadBeside};
+use export::{Export, ExportName, ReadBeside, SyncPoints};
 use export_model::Mode;
 use image_model::Geometry;
 use marks::Pass;
@@ -26,7 +26,14 @@ use std::time::{Duration, Instant};
 
 /// Where a client's requests are submitted to an export.
 #[derive(Drop)]
-pub struct RequestHandler<'a, B: ExportName, D: Disk, H: ReadBeside, R: Wait + Clock, L: Log> {
+pub struct RequestHandler<
+    'a,
+    B: ExportName,
+    D: Disk,
+    H: ReadBeside,
+    R: Wait + Clock,
+    L: SyncPoints + Log + Copy,
+> {
     pub rt: &'a R,
     pub export: &'a Export<B, D, H>,
     pub client: &'a Client,
@@ -47,8 +54,9 @@ pub struct RequestHandler<'a, B: ExportName, D: Disk, H: ReadBeside, R: Wait + C
     pub name: OfferedName<'a>,
 }
 
-impl<'a, B: ExportName, D: Disk, H: ReadBeside, R: Wait + Clock, L: Log> Serve<Pass<B>>
-    for RequestHandler<'a, B, D, H, R, L> {
+impl<'a, B: ExportName, D: Disk, H: ReadBeside, R: Wait + Clock, L: SyncPoints + Log + Copy> Serve<
+    Pass<B>,
+> for RequestHandler<'a, B, D, H, R, L> {
     ghost allows = { λ handler pass request flags next reply. IsSubmitted B.opening B.image (Trusting B.opening B.image B.vouches B.trusted) request handler.export.now.mode pass next reply.answer
         × IsJudged (verdict request.head handler.export.now.geometry flags) request reply.answer
         × (Trusting B.opening B.image B.vouches B.trusted (TellsImage (apply_all next.history B.image) request.head reply.answer)) };
@@ -91,7 +99,10 @@ impl<'a, B: ExportName, D: Disk, H: ReadBeside, R: Wait + Clock, L: Log> Serve<P
         } else {
             None
         };
-        let reply = self.export.submit(self.rt, pass, request, flags);
+        let mut points = self.log;
+        let reply = self
+            .export
+            .submit(self.rt, &mut points, pass, request, flags);
         let delay = self.slow_down(&head, began);
         if let Some(began) = began {
             self.tell_served(head, &reply, began, delay);
@@ -104,14 +115,14 @@ impl<'a, B: ExportName, D: Disk, H: ReadBeside, R: Wait + Clock, L: Log> Serve<P
     }
 }
 
-impl<'a, B: ExportName, D: Disk, H: ReadBeside, R: Wait + Clock, L: Log> RequestHandler<
+impl<
     'a,
-    B,
-    D,
-    H,
-    R,
-    L,
-> {
+    B: ExportName,
+    D: Disk,
+    H: ReadBeside,
+    R: Wait + Clock,
+    L: SyncPoints + Log + Copy,
+> RequestHandler<'a, B, D, H, R, L> {
     // Whether a request with this head is answered once something is stored.
     fn waits_for_store(&self, head: &RequestHead) -> bool {
         let fua = CommandFlags::FUA.bits();

@@ -168,7 +168,7 @@ pub(crate) enum Task {
     Accept(usize),
 }
 
-impl<'a, B: ExportName, D: Disk, H: ReadBeside, R: Wait + Clock, G> Watched
+impl<'a, B: ExportName, D: Disk, H: ReadBeside, R: Wait + Clock, G: SyncPoints + Copy> Watched
     for Server<'a, B, D, H, R, G> {
     fn figures(&self) -> ExportFigures {
         self.pool.figures(self.rt, self.export)
@@ -177,7 +177,8 @@ impl<'a, B: ExportName, D: Disk, H: ReadBeside, R: Wait + Clock, G> Watched
     fn store(&self) -> Option<u64> {
         let mut storing = self.pool.storing.lock(self.rt);
         let pass = storing.as_mut()?;
-        self.export.store_accepted(self.rt, pass)
+        let mut points = self.watch;
+        self.export.store_accepted(self.rt, &mut points, pass)
     }
 
     fn fail(&self) {
@@ -303,7 +304,8 @@ impl<'a, B: ExportName, D: Disk, H: ReadBeside, R: Wait + Clock, G: SyncPoints +
             is_replying: Cell::new(false),
         };
         let end = self.serve_client(pass, session, &told);
-        let _settled = self.export.settle(self.rt, pass);
+        let mut points = self.watch;
+        let _settled = self.export.settle(self.rt, &mut points, pass);
         self.watch.note(Event::Left {
             client: session.number,
             end,

@@ -65,7 +65,7 @@ vouch-is_vouched-requires-clause-from g c =
     subst (λ (n : ℕ). n ≤ c.args.planned.span.first) (sym (c.of.ensures.first ∙ ap (λ (h : RequestHead). h.offset / 4096) c.head-head.ensures)) c.requires.planned.from
 
 pub returns-clause-rest : goal.returns-clause-rest
-returns-clause-rest g c = (refl, refl, refl, refl, refl, refl, refl, refl, refl, refl, refl, refl, refl, refl)
+returns-clause-rest g c = (refl, refl, refl, refl, refl, refl, refl, refl, refl, refl, refl, refl, refl, refl, refl, refl)
 
 pub returns-clause-settled : goal.returns-clause-settled
 returns-clause-settled g c = refl
@@ -74,12 +74,12 @@ pub returns-clause-let_go : goal.returns-clause-let_go
 returns-clause-let_go g c = λ other. absurd (other c.if-planned-self.false)
 
 pub returns-in_err-served-clause-rest : goal.returns-in_err-served-clause-rest
-returns-in_err-served-clause-rest g c = (refl, refl, refl, refl, refl, refl, refl, refl, refl, refl, refl, refl, refl, refl)
+returns-in_err-served-clause-rest g c = (refl, refl, refl, refl, refl, refl, refl, refl, refl, refl, refl, refl, refl, refl, refl, refl)
 
 pub returns-then-planned-self : goal.returns-then-planned-self
 returns-then-planned-self g c =
-    record { served = tt; tells = tt; fits = tt; size = c.requires.size; settled = refl; over = tt; let_go = λ other. refl; unchanged = (refl, refl); rest = (refl, refl, refl, refl, refl, refl, refl, refl, refl, refl, refl, refl, refl, refl) }
+    record { served = tt; tells = tt; fits = tt; size = c.requires.size; settled = refl; over = tt; let_go = λ other. refl; unchanged = (refl, refl); rest = (refl, refl, refl, refl, refl, refl, refl, refl, refl, refl, refl, refl, refl, refl, refl, refl) }
 
 pub returns-then-not-is_vouched : goal.returns-then-not-is_vouched
 returns-then-not-is_vouched g c =
-    record { served = tt; tells = tt; fits = tt; size = c.requires.size; settled = refl; over = tt; let_go = λ other. refl; unchanged = (refl, refl); rest = (refl, refl, refl, refl, refl, refl, refl, refl, refl, refl, refl, refl, refl, refl) }
+    record { served = tt; tells = tt; fits = tt; size = c.requires.size; settled = refl; over = tt; let_go = λ other. refl; unchanged = (refl, refl); rest = (refl, refl, refl, refl, refl, refl, refl, refl, refl, refl, refl, refl, refl, refl, refl, refl) }
