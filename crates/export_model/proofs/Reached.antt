@@ -1,5 +1,5 @@
 -- what schedules lead to
-use Rattle.std.proofs.Common.{◌≡◌, inl, inr, ℕ, ◌+◌, ◌≤◌, ◌==◌, ◌&&◌, Bool, true, nat_le, nat_lt, Result, Ok, Err, List, [], ◌∷◌, ◌++◌, append_assoc, append-nil, length, length-append, sym, ◌∙◌, ap, subst, refl, arith}
+use Rattle.std.proofs.Common.{◌≡◌, ℕ, ◌+◌, ◌≤◌, ◌==◌, ◌&&◌, Bool, true, nat_le, nat_lt, Result, Ok, Err, List, [], ◌∷◌, ◌++◌, append_assoc, append-nil, length, length-append, sym, ◌∙◌, ap, subst, refl, arith}
 use Rattle.std.proofs.lemmas.Bool.{ltb-true}
 use Rattle.image_model.specs.Change.{Change}
 use Rattle.image_model.specs.Edit.{becomes}
@@ -17,7 +17,6 @@ use Rattle.export_model.specs.declared.event.StepFault.TheVariants as fault
 use Rattle.nbd_wire.specs.declared.message.Answer.TheVariants.{Done, Refused}
 use Rattle.export_model.specs.declared.step.Step.{Step}
 use Rattle.export_model.specs.declared.step.Step.TheVariants as steps
-use Rattle.export_model.specs.Covered.{Covers, IsCovered}
 use Rattle.export_model.specs.Log.{edit_asked, flush_waits, is_flush}
 use Rattle.export_model.specs.Run.{IsReached, IsRun, Fresh, After}
 use Rattle.export_model.specs.Serve.{Failure, Nothing, OutOfMemory, DeviceFailure, logged, held, moved, ready, ordered, accepted, passed, judged, serve, answer, staged, faulted, Misread, image_shown, shown, read_served, state_after, status_served, takes_old_bytes}
@@ -36,14 +35,6 @@ use Rattle.export_model.specs.laws.Within.{within_step}
 pub sound_reached : (world : World) → IsReached world → IsSound world
 sound_reached world (Fresh setting) = sound_fresh setting
 sound_reached world (After {world = before} step failure reached) = sound_step before (sound_reached before reached) step failure
-
-pub covers_durable : (world : World) → IsSound world → Covers world world.stage.durable
-covers_durable world sound place (inl flushed) =
-    let found = sound.legal.done flushed.confirmed.connection place flushed.confirmed.answer flushed.confirmed.request flushed.confirmed.answered flushed.confirmed.write in
-    (found.0, sound.durable found.0 found.1 (subst (IsCovered world.stage.setting.mode world.log) (sym found.2) (inl flushed)), found.2)
-covers_durable world sound place (inr forced) =
-    let found = sound.legal.done forced.confirmed.connection place forced.confirmed.answer forced.confirmed.request forced.confirmed.answered forced.confirmed.write in
-    (found.0, sound.durable found.0 found.1 (subst (IsCovered world.stage.setting.mode world.log) (sym found.2) (inr forced)), found.2)
 
 -- where a run goes on
 pub reached_run : (world last : World) (steps : List Step) → IsRun world steps last → IsReached world → IsReached last

@@ -1,8 +1,10 @@
+pub mod Answers
 pub mod Checkpoint
 pub mod Covered
 pub mod Fits
 pub mod Law
 pub mod Log
+pub mod OneLog
 pub mod Run
 pub mod Serve
 pub mod Shown

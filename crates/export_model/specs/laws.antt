@@ -1,6 +1,10 @@
 pub mod Events
+pub mod Fit
+pub mod Good
+pub mod Knows
 pub mod Logged
 pub mod Ordered
+pub mod Own
 pub mod Parts
 pub mod Sound
 pub mod Steps

@@ -1,8 +1,8 @@
 -- a world stays sound when a connection sends a request, and when it is answered
-use Rattle.std.proofs.Common.{◌≡◌, ◌⊎◌, inl, inr, ℕ, ◌+◌, ◌<◌, ◌≤◌, true, Some, [], ◌∷◌, ◌++◌, length, sym, ◌∙◌, subst, arith}
+use Rattle.std.proofs.Common.{◌≡◌, ◌⊎◌, inl, inr, ℕ, ◌+◌, ◌<◌, ◌≤◌, ◌==◌, true, false, Some, [], ◌∷◌, ◌++◌, length, sym, ◌∙◌, subst, arith}
 use Rattle.std.specs.List.{slice_get}
 use Rattle.std.proofs.lemmas.Option.{slice_get_within}
-use Rattle.std.proofs.lemmas.Bool.{cases_eq, cases_lt, eqb-true, both_ways}
+use Rattle.std.proofs.lemmas.Bool.{cases_eq, cases_lt, eqb-true, both_ways, ne_eqb, or_from}
 use Rattle.nbd_wire.specs.Request.{Message}
 use Rattle.nbd_wire.specs.declared.error.Errno.{Errno}
 use Rattle.nbd_wire.specs.declared.error.Errno.TheVariants.{Io}
@@ -11,7 +11,7 @@ use Rattle.export_model.specs.declared.connection.Connection.TheVariants.{Idle, 
 use Rattle.export_model.specs.declared.event.Event.TheVariants.{Sent, Answered}
 use Rattle.nbd_wire.specs.declared.message.Answer.{Answer}
 use Rattle.nbd_wire.specs.declared.message.Answer.TheVariants.{Done, Refused}
-use Rattle.export_model.specs.Log.{StandsAt, is_write, is_write_type, is_flush, flush_waits, waits_for_store}
+use Rattle.export_model.specs.Log.{StandsAt, is_write, is_write_type, is_flush, is_read, is_read_type, flush_waits, waits_for_store}
 use Rattle.export_model.specs.Serve.{logged, moved, answered}
 use Rattle.export_model.specs.World.{World, put}
 use Rattle.export_model.specs.laws.Events.{IsLast, get_split, get_last}
@@ -141,6 +141,30 @@ flush_no_write request flush write =
   where
     unlike : is_write_type 3 ≡ true → ⊥
     unlike is = cc
+
+-- nor is it a READ or a BLOCK_STATUS, and no write command is one
+pub flush_no_read : (request : Message) → is_flush request ≡ true → is_read request ≡ true → ⊥
+flush_no_read request flush read = unlike (subst (λ (kind : ℕ). is_read_type kind ≡ true) (eqb-true request.head.kind 3 flush) read)
+  where
+    unlike : is_read_type 3 ≡ true → ⊥
+    unlike is = cc
+
+pub write_no_read : (request : Message) → is_write request ≡ true → is_read request ≡ false
+write_no_read request write = by_kind (cases_eq request.head.kind 0)
+  where
+    no_zero : is_write_type 0 ≡ true → ⊥
+    no_zero is = cc
+
+    no_seven : is_write_type 7 ≡ true → ⊥
+    no_seven is = cc
+
+    seven : (request.head.kind ≡ 7) ⊎ (request.head.kind ≡ 7 → ⊥) → (request.head.kind ≡ 0 → ⊥) → is_read request ≡ false
+    seven (inl is) other = absurd (no_seven (subst (λ (kind : ℕ). is_write_type kind ≡ true) is write))
+    seven (inr unlike) other = or_from (request.head.kind == 0) (request.head.kind == 7) (ne_eqb request.head.kind 0 other) (ne_eqb request.head.kind 7 unlike)
+
+    by_kind : (request.head.kind ≡ 0) ⊎ (request.head.kind ≡ 0 → ⊥) → is_read request ≡ false
+    by_kind (inl is) = absurd (no_zero (subst (λ (kind : ℕ). is_write_type kind ≡ true) is write))
+    by_kind (inr other) = seven (cases_eq request.head.kind 7) other
 
 -- the answers that the states of a connection lead to are ones that its request may have
 pub allowed_ready_done : (world : World) (c : ℕ) → (right : IsRight (facts_of world) c (world.places c) (Ready Done)) → IsAllowed world (world.places c) right.0 Done
