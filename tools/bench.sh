@@ -95,7 +95,7 @@ measure_servers() {
             serve $it
             fill $it $blocks
             # (what the one has left unstored the next would pay for)
-            for row in 'sequential 1' 'flushed 8' 'fua 8' 'write 1' 'write 4' 'mixed 4' 'write-512 1' 'write-512 4' 'read-512 1' 'read-512 4'; do
+            for row in 'sequential 1' 'flushed 1' 'flushed 4' 'flushed 8' 'fua 1' 'fua 4' 'fua 8' 'write 1' 'write 4' 'mixed 4' 'write-512 1' 'write-512 4' 'read-512 1' 'read-512 4'; do
                 measure $it $row $blocks >>"$it.$(echo "$row" | tr ' ' .)"
                 sync
             done
@@ -128,7 +128,11 @@ measure_servers() {
     echo '|---|---|---|---|---|---|---|---|'
     row 'WRITE 4 KiB at random, 1 connection' '1/s' 1.0 write.1
     row 'WRITE 4 KiB at random, 4 connections' '1/s' 1.0 write.4
-    row 'WRITE 4 KiB and FLUSH, 8 connections' '1/s' 1.0 flushed.8
+    row 'WRITE 4 KiB and FLUSH, 1 connection' '1/s' 0.8 flushed.1
+    row 'WRITE 4 KiB and FLUSH, 4 connections' '1/s' 1.0 flushed.4
+    row 'WRITE 4 KiB and FLUSH, 8 connections' '1/s' 1.2 flushed.8
+    row 'WRITE 4 KiB with FUA, 1 connection' '1/s' 0.8 fua.1
+    row 'WRITE 4 KiB with FUA, 4 connections' '1/s' 1.0 fua.4
     row 'WRITE 4 KiB with FUA, 8 connections' '1/s' 1.0 fua.8
     row 'WRITE 1 MiB in sequence, once over the image, FLUSH at the end' 'MiB/s' 0.6 sequential.1
     row 'READ 4 KiB at random that hits, 1 connection' '1/s' 1.0 hit.read.1

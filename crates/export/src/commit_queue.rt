@@ -160,6 +160,7 @@ impl<B: ExportName> CommitQueue<B> {
         requires noted { settled ≡ order.base }
         ensures order { result.order ≡ order }
         ensures settled { result.settled.number ≡ settled }
+        ensures limit { result.most_pending ≡ 18446744073709551615 }
     {
         CommitQueue {
             order,
@@ -328,8 +329,9 @@ impl<B: ExportName> CommitQueue<B> {
 
     /// Whether a request asks for a write that could leave more bytes pending than may be. After a device fault there is no such.
     pub(crate) fn exceeds_loss(&self, request: &Request) -> bool
-        ensures { result ≡ false → is_write request.now ≡ true → self.now.order.stopped ≡ false
+        ensures bounded { result ≡ false → is_write request.now ≡ true → self.now.order.stopped ≡ false
             → sum self.now.order.bodies + 8206 + length request.now.bytes ≤ self.now.most_pending }
+        ensures stopped { self.now.order.stopped ≡ true → result ≡ false }
     {
         let order = self.order.order();
         if order.stopped() {
@@ -372,21 +374,24 @@ impl<B: ExportName> CommitQueue<B> {
 
     /// Refuses commands from now on.
     pub(crate) fn stop(&mut self)
-        ensures { self.new.settled ≡ self.old.settled }
+        ensures settled { self.new.settled ≡ self.old.settled }
+        ensures limit { self.new.most_pending ≡ self.old.most_pending }
     {
         self.order.stop();
     }
 
     /// A pass has left.
     pub(crate) fn leave(&mut self)
-        ensures { self.new.settled ≡ self.old.settled }
+        ensures settled { self.new.settled ≡ self.old.settled }
+        ensures limit { self.new.most_pending ≡ self.old.most_pending }
     {
         self.passes = self.passes.saturating_sub(1);
     }
 
     /// No group will be stored any more.
     pub(crate) fn end(&mut self)
-        ensures { self.new.settled ≡ self.old.settled }
+        ensures settled { self.new.settled ≡ self.old.settled }
+        ensures limit { self.new.most_pending ≡ self.old.most_pending }
     {
         self.is_flushed = true;
     }
@@ -395,6 +400,7 @@ impl<B: ExportName> CommitQueue<B> {
     pub(crate) fn want(&mut self, number: u64)
         ensures settled { self.new.settled ≡ self.old.settled }
         ensures order { self.new.order ≡ self.old.order }
+        ensures limit { self.new.most_pending ≡ self.old.most_pending }
     {
         self.wanted = self.wanted.max(number);
         self.calls_flusher = true;
@@ -402,7 +408,8 @@ impl<B: ExportName> CommitQueue<B> {
 
     /// Somebody begins to wait until a number is durable, which it isn't.
     pub(crate) fn begin_wait(&mut self, number: u64)
-        ensures { self.new.settled ≡ self.old.settled }
+        ensures settled { self.new.settled ≡ self.old.settled }
+        ensures limit { self.new.most_pending ≡ self.old.most_pending }
     {
         let is_sealed = number <= self.order.order().sealed();
         self.waiters.join(is_sealed);
@@ -432,7 +439,8 @@ impl<B: ExportName> CommitQueue<B> {
 
     /// The flusher is to store the next group.
     pub(crate) fn call_flusher(&mut self)
-        ensures { self.new.settled ≡ self.old.settled }
+        ensures settled { self.new.settled ≡ self.old.settled }
+        ensures limit { self.new.most_pending ≡ self.old.most_pending }
     {
         self.calls_flusher = true;
     }
@@ -447,7 +455,8 @@ impl<B: ExportName> CommitQueue<B> {
 
     /// A command has no room.
     pub(crate) fn miss_room(&mut self)
-        ensures { self.new.settled ≡ self.old.settled }
+        ensures settled { self.new.settled ≡ self.old.settled }
+        ensures limit { self.new.most_pending ≡ self.old.most_pending }
     {
         self.lacks_room = true;
         self.wish_checkpoint();
@@ -457,6 +466,7 @@ impl<B: ExportName> CommitQueue<B> {
     pub(crate) fn wish_checkpoint(&mut self)
         ensures settled { self.new.settled ≡ self.old.settled }
         ensures order { self.new.order ≡ self.old.order }
+        ensures limit { self.new.most_pending ≡ self.old.most_pending }
     {
         if self.wish.is_none() {
             let through = self.order.order().mark();
@@ -468,7 +478,8 @@ impl<B: ExportName> CommitQueue<B> {
     /// Wants a checkpoint if a quarter of the frames is dirty; whether it is wanted from now on. If no area waits to be copied, these
     /// were dirtied since one was last taken into use; if one does, no other comes into use because of it.
     pub(crate) fn look_at_frames(&mut self) -> bool
-        ensures { self.new.settled ≡ self.old.settled }
+        ensures settled { self.new.settled ≡ self.old.settled }
+        ensures limit { self.new.most_pending ≡ self.old.most_pending }
     {
         if self.wish.is_some() || !self.has_dirtied_many() {
             return false;
@@ -484,7 +495,8 @@ impl<B: ExportName> CommitQueue<B> {
 
     /// How many microseconds a client waits that has written this many blocks.
     pub(crate) fn throttle(&mut self, blocks: u64) -> u64
-        ensures { self.new.settled ≡ self.old.settled }
+        ensures settled { self.new.settled ≡ self.old.settled }
+        ensures limit { self.new.most_pending ≡ self.old.most_pending }
     {
         let dirty = self.order.order().dirty_blocks() as u64;
         self.throttle.note(blocks, dirty, self.frames as u64)
@@ -499,7 +511,8 @@ impl<B: ExportName> CommitQueue<B> {
     /// What there is to do once a request was served: for the flusher, where much is pending or it counts the time
     /// from now on, and for the checkpointer, where a checkpoint is wanted since now.
     pub(crate) fn next_work(&mut self) -> (bool, bool)
-        ensures { self.new.settled ≡ self.old.settled }
+        ensures settled { self.new.settled ≡ self.old.settled }
+        ensures limit { self.new.most_pending ≡ self.old.most_pending }
     {
         let is_due = self.look_at_frames();
         let first = self.is_pending() && self.interval.tell_first();
@@ -513,7 +526,8 @@ impl<B: ExportName> CommitQueue<B> {
 
     /// Has what is pending by now stored.
     pub(crate) fn want_pending(&mut self)
-        ensures { self.new.settled ≡ self.old.settled }
+        ensures settled { self.new.settled ≡ self.old.settled }
+        ensures limit { self.new.most_pending ≡ self.old.most_pending }
     {
         let mark = self.order.order().mark();
         self.want(mark);
@@ -558,14 +572,16 @@ impl<B: ExportName> CommitQueue<B> {
 
     /// Whether memory has been refused to the flusher for so long that nobody is to wait for a group.
     pub(crate) fn set_cannot_store(&mut self, cannot: bool)
-        ensures { self.new.settled ≡ self.old.settled }
+        ensures settled { self.new.settled ≡ self.old.settled }
+        ensures limit { self.new.most_pending ≡ self.old.most_pending }
     {
         self.cannot_store = cannot;
     }
 
     /// The same of the checkpointer, and of room.
     pub(crate) fn set_cannot_copy(&mut self, cannot: bool)
-        ensures { self.new.settled ≡ self.old.settled }
+        ensures settled { self.new.settled ≡ self.old.settled }
+        ensures limit { self.new.most_pending ≡ self.old.most_pending }
     {
         self.cannot_copy = cannot;
     }
@@ -587,7 +603,8 @@ impl<B: ExportName> CommitQueue<B> {
 
     /// A command was accepted after this moment.
     pub(crate) fn note_pending(&mut self, began: Instant)
-        ensures { self.new.settled ≡ self.old.settled }
+        ensures settled { self.new.settled ≡ self.old.settled }
+        ensures limit { self.new.most_pending ≡ self.old.most_pending }
     {
         if self.is_pending() {
             self.notes.note_pending(began);
@@ -598,6 +615,7 @@ impl<B: ExportName> CommitQueue<B> {
     pub(crate) fn note_journal(&mut self, journal: JournalUse)
         ensures settled { self.new.settled ≡ self.old.settled }
         ensures order { self.new.order ≡ self.old.order }
+        ensures limit { self.new.most_pending ≡ self.old.most_pending }
     {
         self.notes.note_journal(journal);
     }
@@ -630,7 +648,8 @@ impl<B: ExportName> CommitQueue<B> {
         board: &Board<B>,
         now: Option<Instant>,
     ) -> Result<Option<SealedGroup<B>>, OrderFault>
-        ensures { self.new.settled ≡ self.old.settled }
+        ensures settled { self.new.settled ≡ self.old.settled }
+        ensures limit { self.new.most_pending ≡ self.old.most_pending }
     {
         let sealed = self.order.seal(board)?;
         if sealed.is_some() {
@@ -646,7 +665,8 @@ impl<B: ExportName> CommitQueue<B> {
 
     /// Makes a group pending again, which the flusher is to store.
     pub(crate) fn put_back(&mut self, board: &Board<B>, sealed: SealedGroup<B>)
-        ensures { self.new.settled ≡ self.old.settled }
+        ensures settled { self.new.settled ≡ self.old.settled }
+        ensures limit { self.new.most_pending ≡ self.old.most_pending }
     {
         self.waiters.put_back();
         if let Err(other) = self.order.put_back(board, sealed) {
@@ -659,7 +679,8 @@ impl<B: ExportName> CommitQueue<B> {
 
     /// Makes a group pending again, which the area had no room for, and wants a checkpoint.
     pub(crate) fn take_back(&mut self, board: &Board<B>, sealed: SealedGroup<B>)
-        ensures { self.new.settled ≡ self.old.settled }
+        ensures settled { self.new.settled ≡ self.old.settled }
+        ensures limit { self.new.most_pending ≡ self.old.most_pending }
     {
         self.put_back(board, sealed);
         self.is_full = true;
@@ -673,7 +694,8 @@ impl<B: ExportName> CommitQueue<B> {
 
     /// Another area has been taken into use.
     pub(crate) fn find_empty(&mut self)
-        ensures { self.new.settled ≡ self.old.settled }
+        ensures settled { self.new.settled ≡ self.old.settled }
+        ensures limit { self.new.most_pending ≡ self.old.most_pending }
     {
         self.is_full = false;
     }
@@ -684,7 +706,8 @@ impl<B: ExportName> CommitQueue<B> {
         board: &Board<B>,
         engine: &mut StorageEngine<B, D>,
     ) -> bool
-        ensures { self.new.settled ≡ self.old.settled }
+        ensures settled { self.new.settled ≡ self.old.settled }
+        ensures limit { self.new.most_pending ≡ self.old.most_pending }
     {
         engine.publish(board, &mut self.order);
         self.is_storing = false;
@@ -725,6 +748,7 @@ impl<B: ExportName> CommitQueue<B> {
         ensures settled { self.new.settled.number ≡ keeper.old.keeper.base }
         ensures order { self.new.order ≡ with_clean (record self.old.order { base = max self.old.order.base keeper.old.keeper.base }) keeper.old.keeper.base }
         ensures keeper { keeper.new.keeper ≡ keeper.old.keeper }
+        ensures limit { self.new.most_pending ≡ self.old.most_pending }
     {
         self.order.clean(board, keeper);
         self.settled = NotedBase {
@@ -737,6 +761,7 @@ impl<B: ExportName> CommitQueue<B> {
     pub(crate) fn forget_wish(&mut self)
         ensures settled { self.new.settled ≡ self.old.settled }
         ensures order { self.new.order ≡ self.old.order }
+        ensures limit { self.new.most_pending ≡ self.old.most_pending }
     {
         self.lacks_room = false;
         self.wish = None;

@@ -33,7 +33,7 @@ pub returns-clause-bounded : goal.returns-clause-bounded
 returns-clause-bounded g c =
     let request = c.args.request in let terms = c.args.terms in let queue = c.args.self.now in
     subst (λ (o : OrderState). queue.order.mark < o.mark → sum o.bodies ≤ queue.most_pending) (sym c.show.ensures.order)
-    (here_bounded request terms.geometry terms.mode queue.order c.serve.new.self c.in_ok-served.served queue.most_pending (c.exceeds_loss.ensures c.if-exceeds_loss.false)
+    (here_bounded request terms.geometry terms.mode queue.order c.serve.new.self c.in_ok-served.served queue.most_pending (c.exceeds_loss.ensures.bounded c.if-exceeds_loss.false)
     (verdict request.head terms.geometry terms.flags) (writes request terms.geometry terms.flags) c.in_ok-served.ensures.serves)
 
 pub returns-then-exceeds_loss-clause-tells : goal.returns-then-exceeds_loss-clause-tells

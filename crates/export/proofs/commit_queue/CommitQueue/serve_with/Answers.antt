@@ -35,7 +35,7 @@ returns-clause-bounded g c =
     let (given, given_is, by) = c.serve_with-served.ensures.serves in
     let request = c.args.request in let terms = c.args.terms in let queue = c.args.self.now in
     subst (λ (o : OrderState). queue.order.mark < o.mark → sum o.bodies ≤ queue.most_pending) (sym c.show.ensures.order)
-    (with_bounded request terms.geometry terms.mode queue.order c.serve_with-served.new.self c.serve_with-served.result queue.most_pending (c.exceeds_loss.ensures c.if-exceeds_loss.false)
+    (with_bounded request terms.geometry terms.mode queue.order c.serve_with-served.new.self c.serve_with-served.result queue.most_pending (c.exceeds_loss.ensures.bounded c.if-exceeds_loss.false)
     g.D.Disk.state g.D.Disk.faults g.D.Disk.honest c.args.keeper.now.keeper c.serve_with-served.new.keeper.keeper given (λ passes. writes request terms.geometry terms.flags (sym given_is ∙ passes)) by)
 
 pub returns-then-exceeds_loss-clause-tells : goal.returns-then-exceeds_loss-clause-tells
