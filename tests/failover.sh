@@ -1,11 +1,11 @@
 #!/bin/bash
-# nbdj over a replicated volume of GlusterFS, with nbdj-standby on two of three hosts: power off, a cut network, a paused host, a replica lost
-# while an image is opened, 20 takeovers in a row, and all hosts off at once. The hosts are namespaces of this machine. NBDJ names the
-# program.
+# nbdj over a replicated volume of GlusterFS, with nbdj-standby on two of three hosts: power off, a cut network, a paused host, a second writer, a
+# replica lost under load and while an image is opened, 20 takeovers in a row, and all hosts off at once. The hosts are namespaces of this
+# machine. NBDJ names the program.
 #
 # usage: tests/failover.sh [TRIAL ..]          (TRIAL: the name of one of the functions below whose comment says "Trial"; by default all)
 #
-# With TIMES=shipped it waits as long as packaging/ says, and otherwise more briefly. It takes about ten minutes, so ./test doesn't run it. It
+# With TIMES=shipped it waits as long as packaging/ says, and otherwise more briefly. It takes about 15 minutes, so ./test doesn't run it. It
 # needs root, FUSE, loop devices, network namespaces, and of Debian glusterfs-server, glusterfs-client, xfsprogs, iputils-arping and
 # python3-libnbd; what is missing is told, and nothing is tried. The last line is 'N passed, M failed'. Where a check fails, the log of its
 # trial is printed.
@@ -20,12 +20,12 @@ server.tcp-user-timeout 6
 server.keepalive-time 3
 server.keepalive-interval 1
 server.keepalive-count 3'
-guarded='--lock-check 0.5 --device-timeout 3.5'
+guarded='--lock-check 0.5 --device-timeout 4.5'
 if [ "${TIMES:-}" = shipped ]; then
     short=
     guarded=$(sed -n 's/^Environment="CHECKS=\(.*\)"$/\1/p' "$here/packaging/nbdj-failover@.service")
 fi
-volume_options=$short checks=$guarded
+volume_options=$short checks=$guarded area=16M
 passed=0 failed=0
 
 # standby HOST: nbdj-standby there, whose lines go to $run/standby.HOST with their times
@@ -47,6 +47,7 @@ await() {
         sleep 0.1
     done
     say "NOT SEEN: $2 in $1"
+    return 1
 }
 # client HOST [OPTION ..]: runs there until it is done; its lines go to $run/client.HOST
 client() {
@@ -80,11 +81,18 @@ h = nbd.NBD(); h.connect_uri('nbd://$address')
 if sys.argv[1:] == ['write']: h.pwrite(b'y' * 4096, 4000 * 4096); h.flush()
 print('by b: block 4000 holds', bytes(h.pread(1, 4000 * 4096)))" "$@"; }
 
+# taken_back: b's servers end, so that a, which was shut out, has to serve again
+taken_back() {
+    await "$run/standby.a" 'another process has locked it'
+    took=$(grep -c takes "$run/standby.a")
+    servers_killed b; start=$(now)
+    await "$run/standby.a" takes $((took + 1)) && say "a serves again after $(since "$start") s"
+}
 # volume_with_image: all hosts, a volume, an image, and a serving it
 volume_with_image() {
     all_up
     say "volume up"
-    host_in a "$NBDJ" format "$run/a/mount/vm.img" --size 64M --area 16M
+    host_in a "$NBDJ" format "$run/a/mount/vm.img" --size 64M --area "$area"
     standby a
     await "$run/standby.a" 'takes'
 }
@@ -98,15 +106,17 @@ settled() {
             sleep 1
         done
         sleep 4
-        [ "$(cksum <"$run/a/brick/v/vm.img")" = "$(cksum <"$run/b/brick/v/vm.img")" ] && [ "$(cksum <"$run/b/brick/v/vm.img")" = "$(cksum <"$run/c/brick/v/vm.img")" ] && say "replicas alike"
+        # (a host sees its own mounts only)
+        for host in a b c; do host_in $host cksum "$run/$host/brick/v/vm.img"; done | awk '{ seen[$1 " " $2]++; if (seen[$1 " " $2] == 3) print "alike" }' | grep -q alike && say "replicas alike"
     fi
     host_in "$1" gluster volume heal vol info | grep -E 'entries|split'
     for _ in $(seq 40); do
-        host_in "$1" "$NBDJ" check "$run/$1/mount/vm.img" && break
-        [ $? = 4 ] || break
+        host_in "$1" "$NBDJ" check "$run/$1/mount/vm.img"
+        status=$?
+        [ $status = 4 ] || break
         sleep 0.5
     done
-    say "check: status $?"
+    say "check: status $status"
     cat "$run"/client.* "$run"/standby.* 2>/dev/null
 }
 
@@ -125,13 +135,14 @@ off() {
 cut() {
     volume_with_image
     standby b
-    client d 14 & cl=$!
-    client a 14 --base 2000 --seed 2 & own=$!
+    client d 24 & cl=$!
+    client a 24 --base 2000 --seed 2 & own=$!
     sleep 6
     host_cut a; start=$(now); say "a is cut off"
     await "$run/standby.b" takes; say "b serves after $(since "$start") s"
     sleep 5
     host_heal a; say "a is back"
+    taken_back
     wait $cl $own
     settled b
 }
@@ -139,7 +150,7 @@ cut() {
 pause() {
     volume_with_image
     standby b
-    client d 14 & cl=$!
+    client d 24 & cl=$!
     sleep 6
     say "a is stopped as a whole"; start=$(now)
     stopped=$(pgrep --ns "$(cat "$run/a/pid")" --nslist pid .)
@@ -153,6 +164,7 @@ pause() {
     # shellcheck disable=SC2086,SC2046
     kill -CONT $stopped $(ps -o ppid= -p "$(echo $stopped | tr ' ' ,)")
     say "a goes on"
+    taken_back
     wait $cl
     settled b
 }
@@ -175,6 +187,7 @@ idle() {
     host_heal a; say "a is back"
     await "$run/standby.a" 'waiting for it'
     by_d read
+    taken_back
     settled b
 }
 # mounted_again HOST: waits until this host can use the volume again
@@ -218,6 +231,32 @@ control() {
 client.strict-locks off"
     cut_off_while_idle
 }
+# Trial: the control, where nobody kills the servers. The one without the lock has to notice the other one before it changes the header of the
+# image, and to end; what was confirmed to its client by then is lost.
+noticed() {
+    volume_options="$short
+client.strict-locks off"
+    checks= area=4M
+    volume_with_image
+    standby b
+    held_up a
+    held write x; held flush
+    host_cut a; start=$(now); say "a is cut off"
+    await "$run/standby.b" takes; say "b serves after $(since "$start") s"
+    # (it connects to b before a is back, which has the same address)
+    client d 30 & cl=$!
+    by_d write
+    sleep 5
+    host_heal a; say "a is back"
+    mounted_again a
+    held write z; held flush
+    exec 9>&-
+    client a 20 --base 2000 --seed 2 --patience 20 & own=$!
+    start=$(now)
+    await "$run/standby.a" 'something else has written'; say "a notices b after $(since "$start") s of load"
+    wait $cl $own
+    settled b
+}
 # Trial: a replica is lost while a host opens the image, which goes on with the others.
 opening() {
     volume_with_image
@@ -242,6 +281,32 @@ opening() {
         servers_killed b
         standby a; await "$run/standby.a" takes $((round + 1))
         standby b; await "$run/standby.b" 'waiting for it' $((round + 1))
+    done
+    touch "$run/over"
+    wait $cl
+    settled b
+}
+# Trial: a replica is lost under load, three times. The server goes on with the others, and no other host takes over. A replica that was away
+# counts again once the image is opened anew, so a takeover is asked for in between.
+replica() {
+    volume_with_image
+    standby b
+    client d 0 --until "$run/over" --timeout 30 & cl=$!
+    serving=a waiting=b
+    for round in 1 2 3; do
+        sleep 6
+        took=$(cat "$run"/standby.? | grep -c takes)
+        host_cut c; say "c is cut off"
+        sleep 15
+        [ "$(cat "$run"/standby.? | grep -c takes)" = "$took" ] && say "$serving serves on"
+        host_heal c; say "c is back"
+        sleep 6
+        await "$run/standby.$waiting" 'waiting for it'
+        took=$(grep -c takes "$run/standby.$waiting")
+        servers_killed $serving
+        await "$run/standby.$waiting" takes $((took + 1))
+        standby $serving
+        other=$serving serving=$waiting waiting=$other
     done
     touch "$run/over"
     wait $cl
@@ -337,14 +402,16 @@ hasnt() {
 checked() {
     case $1 in
     off) has 1 'client d: status 0'; has 1 'b serves after'; has 1 'check: status 0'; hasnt BAD ;;
-    cut) has 1 'client d: status 0'; has 1 'client a: status 0'; has 1 'a: nbdj: device fault'; has 1 'replicas alike'; has 1 'check: status 0'; hasnt BAD ;;
-    pause) has 1 'client d: status 0'; has 1 'a: nbdj: device fault'; has 1 'replicas alike'; has 1 'check: status 0'; hasnt BAD ;;
-    idle) has 1 'a stopped before'; has 1 'a: nbdj: .*(lock check|taken longer)'; has 2 "by b: block 4000 holds b'y'"; has 1 'replicas alike'; has 1 'check: status 0'; hasnt BAD ;;
+    cut) has 1 'client d: status 0'; has 1 'client a: status 0'; has 1 'a: nbdj: device fault'; has 1 'a serves again'; has 1 'replicas alike'; has 1 'check: status 0'; hasnt BAD ;;
+    pause) has 1 'client d: status 0'; has 1 'a: nbdj: device fault'; has 1 'a serves again'; has 1 'replicas alike'; has 1 'check: status 0'; hasnt BAD ;;
+    idle) has 1 'a stopped before'; has 1 'a: nbdj: .*(lock check|taken longer)'; has 2 "by b: block 4000 holds b'y'"; has 1 'a serves again'; has 1 'replicas alike'; has 1 'check: status 0'; hasnt BAD ;;
     fence) has 1 'held client: flush: EIO'; has 1 'client a: status 0'; has 1 'client d: status 0'; has 2 "by b: block 4000 holds b'y'"; has 1 'check: status 0'; hasnt BAD ;;
     control) has 1 'client [ad]: status 1'; has 1 'held client: write z: Ok' ;;
-    opening) has 3 'b is opening: c is cut off'; has 3 'b serves after'; has 1 'client d: status 0'; has 1 'replicas alike'; has 1 'check: status 0'; hasnt BAD ;;
+    noticed) has 1 'held client: write z: Ok'; has 1 'a: nbdj: .*: something else has written to this image'; has 1 'a: nbdj: device fault'; has 1 'client a: status 1' ;;
+    opening) has 3 'b is opening: c is cut off'; has 3 'b serves after'; hasnt 'b: nbdj: device fault'; has 1 'client d: status 0'; has 1 'replicas alike'; has 1 'check: status 0'; hasnt BAD ;;
     takeovers) has 20 'takeover .* serves after'; has 1 'client d: status 0'; has 1 'replicas alike'; has 1 'check: status 0'; hasnt BAD ;;
-    all_off) has 1 'of the probe there is \[115\]'; has 1 'client d: status 0'; has 2 'b serves after'; has 2 'goes on after'; hasnt BAD ;;
+    replica) has 3 'serves on'; hasnt '[ab]: nbdj: device fault'; has 1 'client d: status 0'; has 1 'replicas alike'; has 1 'check: status 0'; hasnt BAD ;;
+    all_off) has 1 'of the probe there is \[115\]'; has 1 'client d: status 0'; has 2 'b serves after'; has 2 'goes on after'; has 1 'replicas alike'; has 1 'check: status 0'; hasnt BAD ;;
     esac
 }
 
@@ -360,7 +427,7 @@ main() {
     done
     [ -c /dev/fuse ] && /usr/bin/python3 -c 'import nbd' 2>/dev/null && unshare --net true || skip 'there are no FUSE, libnbd or network namespaces'
     begin=$(date +%s)
-    [ $# -gt 0 ] || set -- off cut pause idle fence control opening takeovers all_off
+    [ $# -gt 0 ] || set -- off cut pause idle fence control noticed replica opening takeovers all_off
     for it; do
         trial "$it"
         checked "$it"

@@ -155,7 +155,7 @@ class Client:
         self.verify(connection)
         rounds = sorted(self.rounds)
         middle = rounds[len(rounds) // 2] * 1000 if rounds else 0
-        self.say(f"summary: {len(rounds)} rounds of {self.options.per_flush} writes and a FLUSH, {len(rounds) / max(sum(rounds), 1e-9):.0f} a second, median {middle:.1f} ms; connections lost {len(self.gaps)}, gaps {[round(gap, 2) for gap in self.gaps]} s")
+        self.say(f"summary: {len(rounds)} rounds of {self.options.per_flush} writes and a FLUSH, {len(rounds) / max(sum(rounds), 1e-9):.0f} a second, median {middle:.1f} ms, longest {rounds[-1] * 1000 if rounds else 0:.0f} ms; connections lost {len(self.gaps)}, gaps {[round(gap, 2) for gap in self.gaps]} s")
         connection.handle.shutdown()
 
 

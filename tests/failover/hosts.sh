@@ -115,9 +115,9 @@ bricks_up() {
     done
 }
 
-# volume_mount HOST
+# volume_mount HOST: without the kernel's page cache, as docs/FAILOVER.md has it
 volume_mount() {
-    host_in "$1" glusterfs --volfile-server="$(host_ip "$1")" --volfile-id=vol "$run/$1/mount"
+    host_in "$1" glusterfs --direct-io-mode=enable --volfile-server="$(host_ip "$1")" --volfile-id=vol "$run/$1/mount"
     for _ in $(seq 100); do
         host_in "$1" stat -f -c %T "$run/$1/mount" 2>/dev/null | grep -q fuse && return
         sleep 0.2
