@@ -1,0 +1,383 @@
+#!/usr/bin/env python3
+"""nbdj on a machine that boots: a guest of Debian under QEMU, without KVM, where the package is installed, systemd runs the units and Linux's own
+client attaches /dev/nbd0. NBDJ names the program.
+
+usage: tests/guest.py [TRIAL ..]          (TRIAL: the name of one of the functions below that `TRIALS` lists; by default all, in its order)
+
+It takes some minutes for each trial and 4 GiB of disk, so ./test doesn't run it. It needs root, and of Debian debootstrap, qemu-system-x86 and
+e2fsprogs; what is missing is told, and nothing is tried. debootstrap makes the guest's disk once, in ~/.cache/nbdj-guest; KEEP_LOGS names a
+folder for the guests' consoles. Prints a line for each trial, and one for each check that fails; last 'N passed, M failed'.
+
+Of the trials only `installed` has been run to its end so far: the others are written and wait for their first run.
+"""
+import contextlib
+import hashlib
+import io
+import json
+import os
+import re
+import shutil
+import socket
+import subprocess
+import sys
+import tarfile
+import tempfile
+import time
+
+TOP = os.path.dirname(os.path.dirname(os.path.abspath(__file__)))
+SUITE, MIRROR = "bookworm", "http://deb.debian.org/debian"
+PACKAGES = ["systemd", "systemd-sysv", "udev", "linux-image-amd64", "kmod", "iproute2", "iputils-arping", "nbd-client", "python3", "python3-libnbd"]
+# Written into the guest's disk: what answers on the port of commands, and the network that QEMU gives.
+FILES = {
+    "etc/hostname": "guest\n",
+    "etc/fstab": "/dev/vda / ext4 defaults 0 1\n",
+    "etc/initramfs-tools/conf.d/guest": "MODULES=list\n",
+    "etc/initramfs-tools/modules": "virtio_pci\nvirtio_blk\next4\n",
+    "etc/systemd/system/agent.service": """[Unit]
+After=multi-user.target
+[Service]
+ExecStart=/usr/bin/python3 /usr/local/lib/agent.py
+Restart=always
+[Install]
+WantedBy=dev-virtio\\x2dports-commands.device
+""",
+    "etc/systemd/network/guest.network": "[Match]\nName=en*\n[Network]\nDHCP=ipv4\n",
+}
+BESIDE = {"usr/local/lib/agent.py": "tests/guest/agent.py", "usr/local/lib/records.py": "tests/guest/records.py", "usr/local/lib/client.py": "tests/failover/client.py"}
+SOCKET = "/run/nbdj-data/socket"
+CLIENT = f"python3 /usr/local/lib/client.py 'nbd+unix:///?socket={SOCKET}'"
+passed, failed = 0, 0
+# What a trial tells beside its time.
+told = []
+
+
+def check(name, wanted, got):
+    global passed, failed
+    if wanted == got:
+        passed += 1
+    else:
+        failed += 1
+        print(f"FAILED {name}\n  wanted: {wanted}\n  got:    {got}", flush=True)
+
+
+def read(path):
+    with open(path, encoding="utf-8") as file:
+        return file.read()
+
+
+def made_disk():
+    """The folder with the disk, the kernel and the initial file system of a guest, which is made if it isn't there."""
+    files = FILES | {place: read(f"{TOP}/{source}") for place, source in BESIDE.items()}
+    recipe = json.dumps([SUITE, MIRROR, PACKAGES, files], sort_keys=True)
+    folder = os.path.expanduser(f"~/.cache/nbdj-guest/{hashlib.sha256(recipe.encode()).hexdigest()[:16]}")
+    if os.path.exists(f"{folder}/disk"):
+        return folder
+    begin = time.monotonic()
+    os.makedirs(os.path.dirname(folder), exist_ok=True)
+    with tempfile.TemporaryDirectory(dir=os.path.dirname(folder)) as apart:
+        root = f"{apart}/root"
+        packed = ",".join(PACKAGES)
+        with open(f"{apart}/log", "wb") as log:
+            def run(*command):
+                if subprocess.run(command, stdin=subprocess.DEVNULL, stdout=log, stderr=log, env=os.environ | {"LC_ALL": "C", "DEBIAN_FRONTEND": "noninteractive"}, check=False).returncode:
+                    sys.exit(f"{' '.join(command)}: failed\n{read(log.name)[-2000:]}")
+
+            run("debootstrap", "--variant=minbase", f"--include={packed}", SUITE, root, MIRROR)
+            for place, text in files.items():
+                os.makedirs(os.path.dirname(f"{root}/{place}"), exist_ok=True)
+                with open(f"{root}/{place}", "w", encoding="utf-8") as file:
+                    file.write(text)
+            run("systemctl", f"--root={root}", "enable", "agent.service", "systemd-networkd.service")
+            run("chroot", root, "update-initramfs", "-u")
+            run("chroot", root, "apt-get", "clean")
+            os.mkdir(f"{apart}/made")
+            run("mkfs.ext4", "-q", "-d", root, f"{apart}/made/disk", "3G")
+            for name in ("vmlinuz", "initrd.img"):
+                shutil.copyfile(f"{root}/{name}", f"{apart}/made/{name}")
+        os.rename(f"{apart}/made", folder)
+    print(f"the guest's disk: made in {time.monotonic() - begin:.0f} s", flush=True)
+    return folder
+
+
+class Guest:
+    """A guest that has booted, over a disk of its own that stays between its starts."""
+
+    def __init__(self, work, name, brought=None):
+        self.work, self.name, self.starts = f"{work}/{name}", name, 0
+        os.mkdir(self.work)
+        self.made = made_disk()
+        subprocess.run(["cp", "--sparse=always", f"{self.made}/disk", f"{self.work}/disk"], check=True)
+        # The files that it is brought are on its second disk, as a tar archive.
+        with tarfile.open(f"{self.work}/brought", "w") as archive:
+            for path, data in (brought or {}).items():
+                entry = tarfile.TarInfo(path)
+                entry.size, entry.mode = len(data), 0o644
+                archive.addfile(entry, io.BytesIO(data))
+        with open(f"{self.work}/brought", "ab") as file:
+            file.truncate(-(-file.tell() // 512) * 512)
+        self.forward = 0
+
+    def start(self):
+        """Boots, and returns the seconds until all of its units were there."""
+        begin = time.monotonic()
+        self.starts += 1
+        console = f"{os.environ.get('KEEP_LOGS', self.work)}/{self.name}.{self.starts}.console"
+        if not self.forward:
+            with socket.socket() as probe:
+                probe.bind(("127.0.0.1", 0))
+                self.forward = probe.getsockname()[1]
+        self.process = subprocess.Popen([
+            "qemu-system-x86_64", "-nodefaults", "-display", "none", "-no-reboot", "-machine", "q35", "-accel", "tcg,thread=multi", "-cpu", "max,svm=off", "-smp", "2", "-m", "1024",
+            "-kernel", f"{self.made}/vmlinuz", "-initrd", f"{self.made}/initrd.img", "-append", "root=/dev/vda rw console=ttyS0 mitigations=off systemd.getty_auto=no",
+            "-serial", f"file:{console}",
+            "-drive", f"file={self.work}/disk,format=raw,if=virtio", "-drive", f"file={self.work}/brought,format=raw,if=virtio,readonly=on",
+            "-netdev", f"user,id=net,hostfwd=tcp:127.0.0.1:{self.forward}-:10809", "-device", "virtio-net-pci,netdev=net,romfile=",
+            "-device", "virtio-serial",
+            "-chardev", f"socket,id=commands,path={self.work}/commands,server=on,wait=off", "-device", "virtserialport,chardev=commands,name=commands",
+            "-chardev", f"file,id=progress,path={self.work}/progress", "-device", "virtserialport,chardev=progress,name=progress",
+        ], stdin=subprocess.DEVNULL, stdout=subprocess.DEVNULL)
+        for _ in range(100):
+            if os.path.exists(f"{self.work}/commands"):
+                break
+            time.sleep(0.1)
+        self.port = socket.socket(socket.AF_UNIX)
+        self.port.connect(f"{self.work}/commands")
+        self.answers = self.port.makefile("rb")
+        check(f"{self.name}: it has booted", (0, "running"), self.run("systemctl is-system-running --wait", 1800))
+        return time.monotonic() - begin
+
+    def run(self, command, seconds=300):
+        """The status and the output of a command there."""
+        self.port.settimeout(seconds + 60)
+        self.port.sendall(json.dumps([command, seconds]).encode() + b"\n")
+        status, output = json.loads(self.answers.readline())
+        return status, output.strip()
+
+    def asked(self, name, command, seconds=300):
+        """The output of a command there, which has to succeed."""
+        status, output = self.run(command, seconds)
+        check(f"{name}: {command}", 0, status)
+        if status != 0:
+            print(f"  {output[-2000:]}", flush=True)
+        return output
+
+    def cut(self):
+        """Power off."""
+        self.process.kill()
+        self.process.wait()
+        self.port.close()
+        os.unlink(f"{self.work}/commands")
+
+    def progress(self):
+        """The last number that its writer told."""
+        lines = read(f"{self.work}/progress").split("\n")
+        return int(lines[-2]) if len(lines) > 1 else 0
+
+    def progressed(self, number, seconds):
+        """Waits until the writer has told this number."""
+        end = time.monotonic() + seconds
+        while time.monotonic() < end:
+            if self.progress() >= number:
+                return True
+            time.sleep(0.2)
+        return False
+
+
+def package():
+    """The bytes of Debian's package of the program."""
+    with tempfile.TemporaryDirectory() as folder:
+        path = subprocess.run([f"{TOP}/tools/package-deb", folder], capture_output=True, text=True, check=True).stdout.strip()
+        with open(path, "rb") as file:
+            return file.read()
+
+
+class Machines:
+    """The guests of the trials: one with the package and a served image, and one that is a client over the network."""
+
+    def __init__(self, work):
+        self.work = work
+        self.server = Guest(work, "server", {"nbdj.deb": package()})
+        self.peer = None
+
+
+def installed(machines):
+    """The guest boots, apt installs the package, and an image is served as docs/SERVING.md says."""
+    guest = machines.server
+    took = guest.start()
+    told.append(f"booted in {took:.0f} s, {guest.run('uname -r')[1]}")
+    check("booted within 6 minutes", True, took < 360)
+    guest.asked("the package", "mkdir /root/brought && tar -C /root/brought -xf /dev/vdb")
+    guest.asked("the package", "apt-get install -y /root/brought/nbdj.deb")
+    version = re.search(r"^## ([0-9.]+)", read(f"{TOP}/CHANGELOG.md"), re.M)[1]
+    check("the program", f"nbdj {version}", guest.asked("the program", "nbdj --version"))
+    check("the user", "/var/lib/nbdj", guest.asked("the user", "getent passwd nbdj | cut -d : -f 6"))
+    check("the units", "", guest.asked("the units", "systemd-analyze verify --man=no nbdj@data.service nbdj@data.socket"))
+    guest.asked("set up", "install -d -o nbdj -g nbdj /var/lib/nbdj")
+    guest.asked("set up", "runuser -u nbdj -- nbdj format /var/lib/nbdj/data.img --size 256M")
+    guest.asked("set up", "systemctl enable --now nbdj@data")
+    check("both are active", "active\nactive", guest.asked("both", "systemctl is-active nbdj@data.service nbdj@data.socket"))
+    check("both are enabled", "enabled\nenabled", guest.asked("both", "systemctl is-enabled nbdj@data.service nbdj@data.socket"))
+    check("the socket", "srw-rw---- nbdj nbdj", guest.asked("the socket", f"stat -c '%A %U %G' {SOCKET}"))
+    check("its user", "nbdj nbdj", guest.asked("its user", "stat -c '%U %G' /proc/$(pidof nbdj)"))
+    check("its log", True, "listening" in guest.asked("its log", "journalctl -u nbdj@data -o cat"))
+    rated = guest.asked("its rating", "systemd-analyze security --no-pager nbdj@data.service | tail -n 1")
+    told.append(re.search(r"exposure level.*?: (\S+ \S+)", rated)[1])
+    check("others are refused", True, "Permission denied" in guest.run(f"runuser -u nobody -- {CLIENT} 0 --patience 1")[1])
+
+
+def restarted(machines):
+    """Under load the service is restarted, stopped and killed, and clients start it anew by its socket."""
+    guest = machines.server
+    guest.asked("load", f"rm -f /root/over; systemd-run --unit=load --property=RemainAfterExit=yes /bin/sh -c \"exec {CLIENT} 0 --until /root/over --timeout 60 >/root/load 2>&1\"")
+    ways = ["systemctl restart nbdj@data", "systemctl stop nbdj@data", "systemctl kill --signal=KILL nbdj@data", "systemctl stop nbdj@data.socket nbdj@data; systemctl start nbdj@data.socket", "kill -9 $(pidof nbdj)"]
+    for way in ways:
+        before = int(guest.run("grep -c 'goes on' /root/load")[1] or 0)
+        time.sleep(8)
+        guest.asked("restarts", way)
+        for _ in range(60):
+            time.sleep(1)
+            if int(guest.run("grep -c 'goes on' /root/load")[1] or 0) > before:
+                break
+        check(f"restarts: {way}: the client goes on", True, int(guest.run("grep -c 'goes on' /root/load")[1] or 0) > before)
+        check(f"restarts: {way}: it is active", "active", guest.run("systemctl is-active nbdj@data")[1])
+    guest.asked("load", "touch /root/over; while systemctl is-active load | grep -q '^active' && ! systemctl show -p SubState load | grep -q exited; do sleep 1; done", 120)
+    check("load: its end", "ExecMainStatus=0", guest.run("systemctl show -p ExecMainStatus load")[1])
+    lines = guest.run("cat /root/load")[1]
+    check("load: nothing is lost", False, "BAD" in lines)
+    told.append(lines.split("summary: ")[-1].split(" rounds")[0] + " rounds of 4 writes and a FLUSH")
+    # What a stop stores was answered, and no FLUSH has come.
+    at = f"import nbd; h = nbd.NBD(); h.connect_uri('nbd+unix:///?socket={SOCKET}')"
+    guest.asked("a stop", f"python3 -c \"{at}; h.pwrite(b'q' * 4096, 100 << 20); import subprocess; subprocess.run(['systemctl', 'stop', 'nbdj@data'], check=True)\"")
+    check("a stop: what it stored", "b'qqqq'", guest.run(f"python3 -c \"{at}; print(bytes(h.pread(4, 100 << 20)))\"")[1])
+    check("nothing has failed", "0 loaded units listed.", guest.run("systemctl list-units --failed --no-legend --no-pager | wc -l | sed 's/$/ loaded units listed./'")[1])
+
+
+def kernel(machines):
+    """Linux's client attaches the image: a file system, its trims, its check, by one connection and by four, and after a kill."""
+    guest = machines.server
+    guest.asked("attach", "modprobe nbd")
+    for connections in (1, 4):
+        name = f"kernel, {connections} connections"
+        guest.asked(name, f"nbd-client -unix {SOCKET} /dev/nbd0 -C {connections}")
+        guest.asked(name, "echo 1024 >/sys/block/nbd0/queue/max_sectors_kb")
+        check(f"{name}: its size", str(256 << 20), guest.asked(name, "blockdev --getsize64 /dev/nbd0"))
+        guest.asked(name, "blkdiscard /dev/nbd0")
+        guest.asked(name, "mkfs.ext4 -q -F /dev/nbd0")
+        guest.asked(name, "mkdir -p /mnt/n && mount /dev/nbd0 /mnt/n")
+        guest.asked(name, "for n in 1 2 3 4; do dd if=/dev/urandom of=/mnt/n/$n bs=1M count=16 conv=fsync status=none & done; wait; sha256sum /mnt/n/? >/root/sums")
+        guest.asked(name, "rm /mnt/n/1 && fstrim -v /mnt/n && umount /mnt/n")
+        guest.asked(name, "e2fsck -f -n /dev/nbd0")
+        guest.asked(name, "nbd-client -d /dev/nbd0")
+        guest.asked(name, "systemctl restart nbdj@data")
+        guest.asked(name, f"nbd-client -unix {SOCKET} /dev/nbd0 -C {connections}")
+        guest.asked(name, "mount /dev/nbd0 /mnt/n && grep -v /1$ /root/sums | sha256sum -c --quiet && umount /mnt/n")
+        guest.asked(name, "nbd-client -d /dev/nbd0")
+    name = "kernel, a kill"
+    guest.asked(name, f"nbd-client -unix {SOCKET} /dev/nbd0 -C 4 && mount /dev/nbd0 /mnt/n")
+    guest.asked(name, "setsid python3 /usr/local/lib/records.py write /mnt/n/records /root/progress >/dev/null 2>&1 & sleep 10; kill -9 $(pidof nbdj); sleep 2; tail -n 1 /root/progress >/root/confirmed; umount -l /mnt/n; nbd-client -d /dev/nbd0; sleep 2")
+    guest.asked(name, f"nbd-client -unix {SOCKET} /dev/nbd1 -C 4 && mount /dev/nbd1 /mnt/n")
+    confirmed, found = int(guest.run("cat /root/confirmed")[1] or 0), guest.asked(name, "python3 /usr/local/lib/records.py read /mnt/n/records")
+    told.append(f"killed after {confirmed} confirmed records")
+    check(f"{name}: something was confirmed", True, confirmed > 0)
+    check(f"{name}: what was confirmed is there", True, int(found.split()[0]) >= confirmed)
+    guest.asked(name, "umount /mnt/n && e2fsck -f -n /dev/nbd1; s=$?; nbd-client -d /dev/nbd1; exit $s")
+
+
+def power(machines):
+    """The server's guest loses power, twice, while a second guest writes to the image over the network and syncs."""
+    guest = machines.server
+    guest.asked("by the network", "mkdir -p /etc/systemd/system/nbdj@data.socket.d && printf '[Socket]\\nListenStream=10809\\n' >/etc/systemd/system/nbdj@data.socket.d/network.conf && systemctl daemon-reload && systemctl stop nbdj@data.socket nbdj@data && systemctl start nbdj@data")
+    peer = machines.peer = Guest(machines.work, "peer")
+    peer.start()
+    attach = f"nbd-client 10.0.2.2 {guest.forward} /dev/nbd"
+    peer.asked("power", "for n in $(seq 60); do ip -4 -o address show scope global | grep -q inet && break; sleep 1; done")
+    peer.asked("power", f"modprobe nbd && {attach}0 && mkfs.ext4 -q -F /dev/nbd0 && mkdir -p /mnt/n && mount /dev/nbd0 /mnt/n")
+    for number in (1, 2):
+        name = f"power cut {number}"
+        before = peer.progress()
+        peer.asked(name, "systemd-run --collect --unit=writes python3 /usr/local/lib/records.py write /mnt/n/records /dev/virtio-ports/progress")
+        check(f"{name}: records are confirmed", True, peer.progressed(before + 40 * number, 120))
+        guest.cut()
+        confirmed = peer.progress()
+        peer.asked(name, f"systemctl stop writes; umount -l /mnt/n; nbd-client -d /dev/nbd{number - 1}; sleep 2")
+        took = guest.start()
+        confirmed = max(confirmed, peer.progress())
+        check(f"{name}: it is active again", "active", guest.run("systemctl is-active nbdj@data")[1])
+        # (another device, since the one before may still be held)
+        peer.asked(name, f"{attach}{number} && mount /dev/nbd{number} /mnt/n")
+        found = peer.asked(name, "python3 /usr/local/lib/records.py read /mnt/n/records")
+        told.append(f"{confirmed} records confirmed, {found.split()[0]} found, booted anew in {took:.0f} s")
+        check(f"{name}: what was confirmed is there", True, int(found.split()[0]) >= confirmed)
+    peer.asked("power", "umount /mnt/n && e2fsck -f -n /dev/nbd2; s=$?; nbd-client -d /dev/nbd2; exit $s")
+
+
+def standby(machines):
+    """nbdj-failover@data on one host with a local disk: its sandbox lets it take the address, start anew, and give the address back."""
+    guest = machines.server
+    unit = "nbdj-failover@data"
+    guest.asked("standby", "ip link add dummy0 type dummy && ip link set dummy0 up && mkdir -p /srv/nbdj /etc/nbdj && nbdj format /srv/nbdj/data.img --size 16M")
+    guest.asked("standby", "printf '%s\\n' ADDRESS=192.0.2.10/24 INTERFACE=dummy0 >/etc/nbdj/failover-data")
+    check("standby: its unit", "", guest.asked("standby", f"systemd-analyze verify --man=no {unit}.service"))
+    guest.asked("standby", "systemctl stop nbdj@data.socket nbdj@data")
+    guest.asked("standby", f"systemctl enable --now {unit}")
+    held = "ip -o address show dev dummy0 | grep -c 192.0.2.10"
+    await_held = f"for n in $(seq 100); do {held} >/dev/null && break; sleep 0.2; done; {held}"
+    check("standby: it has the address", "1", guest.run(await_held)[1])
+    client = CLIENT.replace(f"nbd+unix:///?socket={SOCKET}", "nbd://192.0.2.10")
+    guest.asked("standby", f"{client} 3")
+    guest.asked("standby", "kill -9 $(pidof nbdj); sleep 2")
+    check("standby: it has the address after a kill", "1", guest.run(await_held)[1])
+    guest.asked("standby", f"{client} 1")
+    guest.asked("standby", f"systemctl kill --signal=KILL {unit}; sleep 4")
+    check("standby: it has the address after a kill of all", "1", guest.run(await_held)[1])
+    guest.asked("standby", f"systemctl stop {unit}")
+    check("standby: the address is given back", "0", guest.run(held)[1])
+    told.append(re.search(r"exposure level.*?: (\S+ \S+)", guest.asked("standby", f"systemd-analyze security --no-pager {unit}.service | tail -n 1"))[1])
+    guest.asked("standby", f"systemctl disable {unit}; systemctl start nbdj@data.socket")
+
+
+TRIALS = [installed, restarted, kernel, standby, power]
+
+
+def missing():
+    if os.geteuid() != 0:
+        return "not root"
+    for program in ("debootstrap", "qemu-system-x86_64", "mkfs.ext4", "dpkg-deb"):
+        if not shutil.which(program, path=f"{os.environ['PATH']}:/usr/sbin:/sbin"):
+            return f"there is no {program}"
+    return None
+
+
+def main():
+    lacks = missing()
+    if lacks:
+        print(f"skipped: {lacks}")
+        return
+    begin = time.monotonic()
+    names = sys.argv[1:]
+    made_disk()
+    with tempfile.TemporaryDirectory() as work:
+        machines = Machines(work)
+        try:
+            # The others are on what the first one sets up.
+            for trial in TRIALS:
+                if trial is not installed and names and trial.__name__ not in names:
+                    continue
+                told.clear()
+                start = time.monotonic()
+                try:
+                    trial(machines)
+                except (OSError, ValueError, IndexError, TypeError) as fault:
+                    check(f"{trial.__name__}: its end", None, repr(fault))
+                print(f"{trial.__name__}: {time.monotonic() - start:.0f} s{''.join(f', {it}' for it in told)}", flush=True)
+        finally:
+            for guest in (machines.server, machines.peer):
+                if guest is not None and hasattr(guest, "process"):
+                    with contextlib.suppress(OSError):
+                        guest.cut()
+    print(f"{time.monotonic() - begin:.0f} s")
+    print(f"{passed} passed, {failed} failed")
+    sys.exit(failed > 0)
+
+
+main()
