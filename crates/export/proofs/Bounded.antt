@@ -17,7 +17,7 @@ use Rattle.nbd_wire.specs.declared.error.Errno.{Errno}
 use Rattle.order_book.specs.Order.{OrderState}
 use Rattle.order_book.specs.Shown.{ShowsImage}
 use Rattle.request_core.specs.Outcomes.{IsPassed, IsServedBy, IsServedHere}
-use Rattle.request_core.specs.Reading.{IsKnownBy}
+use Rattle.order_book.specs.Edits.{IsKnownBy}
 use Rattle.request_core.specs.Serving.{IsWriteServed}
 use Rattle.request_core.specs.declared.serving.Served.{Served}
 use Rattle.export_model.specs.Log.{cleared_as, edit_asked, is_flush, is_write}

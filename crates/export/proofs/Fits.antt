@@ -21,7 +21,8 @@ use Rattle.order_book.specs.Order.{OrderState}
 use Rattle.request_core.specs.Outcomes.{IsPassed, IsServedBy, IsServedHere}
 use Rattle.order_book.specs.Shown.{ShowsImage}
 use Rattle.order_book.specs.declared.span.Span.{Span}
-use Rattle.request_core.specs.Reading.{IsKnownBy, IsReadOverServed, IsStatusServed}
+use Rattle.request_core.specs.Reading.{IsReadOverServed, IsStatusServed}
+use Rattle.order_book.specs.Edits.{IsKnownBy}
 use Rattle.request_core.specs.Serving.{IsWriteServed, ready_for, served_after}
 use Rattle.request_core.specs.declared.serving.Served.{Served}
 use Rattle.export_model.specs.Log.{flush_waits, is_flush, is_write, is_write_type, waits_for_store}

@@ -258,6 +258,7 @@ fn open_parts<B: ExportName, D: Disk>(
         board,
         order: order_seat,
         keeper: seat,
+        roster: _,
         mut passes,
     } = blank.open::<B>(alloc, count)?;
     let Some(last) = passes.pop() else {

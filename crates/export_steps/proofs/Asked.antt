@@ -26,7 +26,8 @@ use Rattle.std.proofs.Math.ListN.{set}
 use Rattle.std.proofs.lemmas.List.{set-set}
 use Rattle.nbd_wire.specs.declared.message.SessionFlags.{SessionFlags}
 use Rattle.export_model.specs.Verdict.{verdict}
-use Rattle.request_core.specs.Reading.{IsKnownBy, IsRead, IsReadServed, IsUnread}
+use Rattle.request_core.specs.Reading.{IsRead, IsReadServed, IsUnread}
+use Rattle.order_book.specs.Edits.{IsKnownBy}
 use Rattle.device_image.specs.laws.Counted.{remembers_still}
 use Rattle.disk_model.specs.Disk.{IsSound, LeavesOnly}
 use Rattle.disk_model.specs.Faults.{counted}

@@ -215,6 +215,7 @@ fn share<B: BoardName + Send + Sync, R: Threads + Wait + Sync>(
         board,
         order: order_seat,
         keeper: seat,
+        roster: _,
         passes,
     } = blank.open::<B>(alloc, 2).ok()?;
     let order = Mutex::new(order_over(alloc, &keeper, 100, order_seat)?);

@@ -1,18 +1,23 @@
 -- What seats know keeps fitting a board as the history and the numbers grow, and as seats come, hear and are spent.
-use Rattle.std.proofs.Common.{◌≡◌, ◌≢◌, ℕ, zero, suc, ◌+◌, ◌≤◌, ◌⊎◌, List, [], ◌∷◌, ◌++◌, length, set, refl, sym, ap, ◌∙◌, subst, ⊎_elim, inl, inr, arith, true}
+use Rattle.std.proofs.Common.{◌≡◌, ◌≢◌, ℕ, zero, suc, ◌+◌, ◌≤◌, ◌⊎◌, List, [], ◌∷◌, ◌++◌, length, set, refl, sym, ap, ◌∙◌, subst, ⊎_elim, inl, inr, arith, false}
 use mathlib.Core.Option.{some, some-injective, some-ne-none}
 use mathlib.Core.List.{IsPrefix}
 use lib.ListN.{get_elem?}
 use Rattle.atomic_table.specs.Table.{State, keeps, stepped, opening}
-use Rattle.atomic_table.proofs.Lists.{at_set, at_snoc}
-use Rattle.image_model.specs.declared.command.Command.{Command}
+use Rattle.atomic_table.proofs.Lists.{at_set}
+use Rattle.image_model.specs.Image.{Image}
+use Rattle.export_model.specs.declared.step.Mode.{Mode}
+use Rattle.marks.specs.declared.said.Said.{Said}
 use Rattle.marks.specs.declared.view.View.{View}
-use Rattle.marks.specs.Rule.{World, Fits, IsBoard, first_view}
-use Rattle.marks.specs.inner.Steps.{without_keeper, keeper_only, nothing}
+use Rattle.marks.specs.Rule.{World, Fits, FitsLog, IsBoard, IsLogged, first_view}
+use Rattle.export_model.specs.World.{Setting}
+use Rattle.export_model.specs.laws.Good.{good_quiet, knows_quiet, quiet}
+use Rattle.image_model.specs.declared.layout.Layout.TheVariants.{One}
+use Rattle.marks.specs.inner.Steps.{nothing}
 use Rattle.marks.specs.laws.Beginnings.{prefix_none, prefix_self, prefix_trans}
 
-abbrev pub Board : Type 0
-Board = State Command View
+abbrev pub Table : Type 0
+Table = State Said View
 
 -- more was accepted, stored or copied
 pub record Grows (old new : World) : Type 0 where
@@ -59,36 +64,7 @@ each_set old new id w views more same mine each seat view at =
     (at_set views id seat w view at)
 
 abbrev pub words_of : World → List ℕ
-words_of w = (w.opening + length w.history) ∷ w.durable ∷ []
-
--- a step of the seat `id`, which raises what grows
-pub moved : (s : Board) (b : IsBoard s) (new : World) (i n id : ℕ) (slots : List (ℕ × Command)) (w : View)
-    → set (words_of b.world) i n ≡ words_of new → new.durable ≤ new.opening + length new.history → Grows b.world new
-    → ((seat : ℕ) → seat ≢ id → SameFor b.world new seat) → Fits new id w → IsBoard (stepped s i n id slots w keeps)
-moved s b new i n id slots w words ordered more same mine = record {
-  world = new;
-  words = ap (λ (ws : List ℕ). set ws i n) b.words ∙ words;
-  ordered = ordered;
-  each = each_set b.world new id w s.views more same mine b.each;
-}
-
--- one seat has another view, and the board is as it was
-pub changed : (s : Board) (b : IsBoard s) (id : ℕ) (w : View) → Fits b.world id w
-    → (seat : ℕ) (view : View) → get_elem? (set s.views id w) seat ≡ some view → Fits b.world seat view
-changed s b id w mine = each_set b.world b.world id w s.views (grows_none b.world) (λ seat _. same_for b.world seat) mine b.each
-
--- a new seat comes
-pub split : (s : Board) (b : IsBoard s) (id : ℕ) (left right : View) → Fits b.world id left → ((seat : ℕ) → Fits b.world seat right)
-    → IsBoard record { words = s.words; homes = s.homes; views = set s.views id left ++ right ∷ [] }
-split s b id left right mine fits = record {
-  world = b.world;
-  words = b.words;
-  ordered = b.ordered;
-  each = λ seat view at.
-      ⊎_elim (changed s b id left mine seat view)
-      (λ (new : right ≡ view). subst (Fits b.world seat) new (fits seat))
-      (at_snoc (set s.views id left) right view seat at);
-}
+words_of w = (w.opening + length w.history) ∷ w.durable ∷ 0 ∷ []
 
 -- what a list that is one longer has at a place was there before, or stands at its end
 pub at_end : (l : List View) (a v : View) (i : ℕ) → get_elem? (l ++ a ∷ []) i ≡ some v → (get_elem? l i ≡ some v) ⊎ ((i ≡ length l) × (a ≡ v))
@@ -96,62 +72,6 @@ at_end [] a v zero e = inr (refl, some-injective a v e)
 at_end [] a v (suc i) e = absurd (some-ne-none v (sym e))
 at_end (x ∷ l) a v zero e = inl e
 at_end (x ∷ l) a v (suc i) e = ⊎_elim inl (λ (t : (i ≡ length l) × (a ≡ v)). inr (ap suc t.0, t.1)) (at_end l a v i e)
-
--- the right to store goes to a new seat
-pub gives : (s : Board) (b : IsBoard s) (id : ℕ) (v : View) → v.raises_durable ≡ true → get_elem? s.views id ≡ some v
-    → IsBoard record { words = s.words; homes = s.homes; views = set s.views id (without_keeper v) ++ keeper_only v ∷ [] }
-gives s b id v right at =
-    let mine = b.each id v at in let keeper = mine.as_keeper right in let left : View = without_keeper v in let right_view : View = keeper_only v in
-    let views : List View = set s.views id left in let seat' : ℕ = length views in let old = b.world in
-    let new : World = record { opening = old.opening; history = old.history; durable = old.durable; base = old.base; order = old.order; keeper = seat' } in
-    let giver : Fits new id left = record {
-      opened = mine.opened;
-      seen = mine.seen;
-      durable = omega arith;
-      base = mine.base;
-      told = mine.told;
-      told_durable = mine.told_durable;
-      told_base = mine.told_base;
-      as_order = mine.as_order;
-      as_keeper = λ r. (cc);
-    } in
-    let others : (seat : ℕ) (view : View) → seat ≢ id → get_elem? s.views seat ≡ some view → Fits new seat view =
-    λ seat view other there. let fits = b.each seat view there in record {
-      opened = fits.opened;
-      seen = fits.seen;
-      durable = fits.durable;
-      base = fits.base;
-      told = fits.told;
-      told_durable = fits.told_durable;
-      told_base = fits.told_base;
-      as_order = fits.as_order;
-      as_keeper = λ r. absurd (other ((fits.as_keeper r).0 ∙ sym keeper.0));
-    } in
-    record {
-      world = new;
-      words = b.words;
-      ordered = b.ordered;
-      each = λ seat view e.
-          ⊎_elim
-          (λ (was : get_elem? views seat ≡ some view).
-          ⊎_elim
-          (λ (here : (seat ≡ id) × (left ≡ view)). subst (λ (x : ℕ × View). Fits new x.0 x.1) (λ k. (sym here.0 k, here.1 k)) giver)
-          (λ (there : (seat ≢ id) × (get_elem? s.views seat ≡ some view)). others seat view there.0 there.1)
-          (at_set s.views id seat left view was))
-          (λ (at_new : (seat ≡ seat') × (right_view ≡ view)). subst (Fits new seat) at_new.1
-          record {
-            opened = mine.opened;
-            seen = mine.seen;
-            durable = mine.durable;
-            base = mine.base;
-            told = mine.told;
-            told_durable = mine.told_durable;
-            told_base = mine.told_base;
-            as_order = λ r. (cc);
-            as_keeper = λ r. (at_new.0, keeper.1, keeper.2);
-          })
-          (at_end views right_view view seat e);
-    }
 
 -- a view that knows nothing fits in any seat
 pub fits_nothing : (w : World) (seat : ℕ) → Fits w seat nothing
@@ -167,24 +87,98 @@ fits_nothing w seat = record {
   as_keeper = λ r. (cc);
 }
 
--- a seat takes in another's view, which is spent
-pub join : (s : Board) (b : IsBoard s) (id other : ℕ) (both : View) → Fits b.world id both
-    → IsBoard record { words = s.words; homes = s.homes; views = set (set s.views id both) other nothing }
-join s b id other both mine = record {
-  world = b.world;
-  words = b.words;
-  ordered = b.ordered;
-  each = each_set b.world b.world other nothing (set s.views id both) (grows_none b.world) (λ seat _. same_for b.world seat) (fits_nothing b.world other) (changed s b id both mine);
+module _ (logs trusted : Type 0) (mode : Mode) (image : Image) where
+  abbrev pub Rule : Table → Type 0
+  Rule = IsBoard logs trusted mode image
+
+  abbrev pub Log : World → List View → Type 0
+  Log w views = logs → IsLogged trusted mode image w.opening w.history w.durable views
+
+  -- a step of the seat `id`, which raises what grows
+  pub moved : (s : Table) (b : Rule s) (new : World) (i n id : ℕ) (slots : List (ℕ × Said)) (w : View)
+      → set (words_of b.world) i n ≡ words_of new → new.durable ≤ new.opening + length new.history → Grows b.world new
+      → ((seat : ℕ) → seat ≢ id → SameFor b.world new seat) → Fits new id w → Log new (set s.views id w) → Rule (stepped s i n id slots w keeps)
+  moved s b new i n id slots w words ordered more same mine log = record {
+    world = new;
+    words = ap (λ (ws : List ℕ). set ws i n) b.words ∙ words;
+    ordered = ordered;
+    each = each_set b.world new id w s.views more same mine b.each;
+    logged = log;
+  }
+
+  -- a step that leaves the numbers as they are
+  pub looked : (s : Table) (b : Rule s) (i n id : ℕ) (slots : List (ℕ × Said)) (w : View) → set (words_of b.world) i n ≡ words_of b.world
+      → Fits b.world id w → Log b.world (set s.views id w) → Rule (stepped s i n id slots w keeps)
+  looked s b i n id slots w same mine log = moved s b b.world i n id slots w same b.ordered (grows_none b.world) (λ seat _. same_for b.world seat) mine log
+
+  -- a new seat comes, to which the seat `id` gives something
+  pub split_to : (s : Table) (b : Rule s) (new : World) (id : ℕ) (left right : View) → words_of b.world ≡ words_of new → new.durable ≤ new.opening + length new.history
+      → ((seat : ℕ) (view : View) → seat ≢ id → get_elem? s.views seat ≡ some view → Fits new seat view) → Fits new id left → Fits new (length (set s.views id left)) right
+      → Log new (set s.views id left ++ right ∷ []) → Rule record { words = s.words; homes = s.homes; views = set s.views id left ++ right ∷ [] }
+  split_to s b new id left right words ordered others mine theirs log = record {
+    world = new;
+    words = b.words ∙ words;
+    ordered = ordered;
+    each = λ seat view e.
+        ⊎_elim
+        (λ (was : get_elem? (set s.views id left) seat ≡ some view).
+        ⊎_elim
+        (λ (here : (seat ≡ id) × (left ≡ view)). subst (λ (x : ℕ × View). Fits new x.0 x.1) (λ k. (sym here.0 k, here.1 k)) mine)
+        (λ (there : (seat ≢ id) × (get_elem? s.views seat ≡ some view)). others seat view there.0 there.1)
+        (at_set s.views id seat left view was))
+        (λ (last : (seat ≡ length (set s.views id left)) × (right ≡ view)). subst (λ (x : ℕ × View). Fits new x.0 x.1) (λ k. (sym last.0 k, last.1 k)) theirs)
+        (at_end (set s.views id left) right view seat e);
+    logged = log;
+  }
+
+  -- a seat takes something from another one, which is spent
+  pub join_to : (s : Table) (b : Rule s) (new : World) (id other : ℕ) (both : View) → words_of b.world ≡ words_of new → new.durable ≤ new.opening + length new.history
+      → ((seat : ℕ) (view : View) → seat ≢ id → seat ≢ other → get_elem? s.views seat ≡ some view → Fits new seat view) → Fits new id both
+      → Log new (set (set s.views id both) other nothing) → Rule record { words = s.words; homes = s.homes; views = set (set s.views id both) other nothing }
+  join_to s b new id other both words ordered others mine log = record {
+    world = new;
+    words = b.words ∙ words;
+    ordered = ordered;
+    each = λ seat view e.
+        ⊎_elim
+        (λ (gone : (seat ≡ other) × (nothing ≡ view)). subst (Fits new seat) gone.1 (fits_nothing new seat))
+        (λ (there : (seat ≢ other) × (get_elem? (set s.views id both) seat ≡ some view)).
+        ⊎_elim
+        (λ (here : (seat ≡ id) × (both ≡ view)). subst (λ (x : ℕ × View). Fits new x.0 x.1) (λ k. (sym here.0 k, here.1 k)) mine)
+        (λ (away : (seat ≢ id) × (get_elem? s.views seat ≡ some view)). others seat view away.0 there.0 away.1)
+        (at_set s.views id seat both view there.1))
+        (at_set (set s.views id both) other seat nothing view e);
+    logged = log;
+  }
+
+  -- the other seat of a join fits as it did
+  pub there_still : (s : Table) (id other : ℕ) (both w : View) → ¬ (other ≡ id) → get_elem? (set s.views id both) other ≡ some w → get_elem? s.views other ≡ some w
+  there_still s id other both w apart at =
+      ⊎_elim (λ (here : (other ≡ id) × (both ≡ w)). absurd (apart here.0)) (λ (there : (other ≢ id) × (get_elem? s.views other ≡ some w)). there.1) (at_set s.views id other both w at)
+
+-- a world's setting of which the board knows these three
+abbrev pub setting_of : Mode → Image → ℕ → Setting
+setting_of mode image number = record {
+  geometry = record { blocks = 1; area = 2097152; layout = One; some_blocks = omega arith; not_too_many = omega arith; area_not_too_small = omega arith; areas_not_too_small = omega arith; area_not_too_large = omega arith; area_whole = omega arith };
+  flags = record { structured = false; context = false };
+  mode = mode;
+  connections = 0;
+  frames = 0;
+  image = image;
+  opening = number;
+  generation = 0;
+  failures = 0;
+  trusted = false;
 }
 
-abbrev world_at : ℕ → World
+abbrev pub world_at : ℕ → World
 world_at number = record { opening = number; history = []; durable = number; base = number; order = 0; keeper = 0 }
 
 -- a board that opens with a number
-pub opens : (number : ℕ) → IsBoard (opening (number ∷ number ∷ []) [] (first_view number))
-opens number = record {
+pub opens : (logs trusted : Type 0) (mode : Mode) (image : Image) (number : ℕ) → IsBoard logs trusted mode image (opening (number ∷ number ∷ 0 ∷ []) [] (first_view number))
+opens logs trusted mode image number = record {
   world = world_at number;
-  words = ap (λ (k : ℕ). k ∷ number ∷ []) (omega arith);
+  words = ap (λ (k : ℕ). k ∷ number ∷ 0 ∷ []) (omega arith);
   ordered = omega arith;
   each = λ seat view at.
       ⊎_elim (λ none_there. absurd (some-ne-none view (sym none_there)))
@@ -201,4 +195,19 @@ opens number = record {
         as_keeper = λ _. (first.0, refl, refl);
       })
       (at_end [] (first_view number) view seat at);
+  logged = λ _. record {
+    room = record { world = quiet (setting_of mode image number); maker = 0; made = 0; holder = λ by. 0 };
+    good = good_quiet trusted (setting_of mode image number);
+    mode_is = refl;
+    image_is = refl;
+    opened = refl;
+    order = refl;
+    stored = omega arith;
+    unmade = λ by above. (refl, refl, knows_quiet (setting_of mode image number) by);
+    each = λ seat view at.
+        ⊎_elim (λ none_there. absurd (some-ne-none view (sym none_there)))
+        (λ (first : (seat ≡ 0) × (first_view number ≡ view)). subst (FitsLog (record { world = quiet (setting_of mode image number); maker = 0; made = 0; holder = λ by. 0 }) seat) first.1
+        record { as_maker = λ _. (first.0, refl); as_client = λ r. (cc); gathered = tt })
+        (at_end [] (first_view number) view seat at);
+  };
 }

@@ -2,6 +2,8 @@
 use Rattle.std.specs.Prelude.{ℕ, max, List, [], Option, Some, None}
 use Rattle.atomic_table.specs.Seated.{TableId}
 use Rattle.image_model.specs.Change.{Change}
+use Rattle.marks.specs.Client.{nobody}
+use Rattle.marks.specs.declared.view.Client.{Client}
 
 -- what is told: a beginning of the history, the number of its last change, and a number that is durable
 pub record Marks : Type 0 where
@@ -34,12 +36,13 @@ pub record OwnCommands : Type 0 where
   pub last : Option Numbered
 
 -- a pass: the beginning of the history that it has seen or was told, the number of its last change, the greatest durable number that
--- it has seen or was told, and its own commands
+-- it has seen or was told, its own commands, and whose it is
 pub record PassState : Type 0 where
   pub history : List Change
   pub accepted : ℕ
   pub durable : ℕ
   pub own : OwnCommands
+  pub client : Client
 
 -- a board that has no name yet: the table, and the number with which it opens
 pub record BlankState : Type 0 where
@@ -54,6 +57,10 @@ number_of (Some last) = last.number
 abbrev pub known : PassState → ℕ
 known pass = max (max pass.accepted pass.durable) (number_of pass.own.last)
 
--- a pass that knows the number with which the board opened, and has none of its own
+-- a pass that knows the number with which the board opened, has none of its own, and is nobody's
 abbrev pub new_pass : ℕ → PassState
-new_pass number = record { history = []; accepted = number; durable = number; own = record { count = 0; last = None } }
+new_pass number = record { history = []; accepted = number; durable = number; own = record { count = 0; last = None }; client = nobody }
+
+-- a pass that knows what the keeper's seat does, has no command of its own, and is nobody's
+abbrev pub knowing : KeeperKnows → PassState
+knowing keeper = record { history = keeper.history; accepted = keeper.accepted; durable = keeper.durable; own = record { count = 0; last = None }; client = nobody }

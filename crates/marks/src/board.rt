@@ -1,16 +1,22 @@
-ghost use Rattle.std.specs.Prelude.{◌≡◌, ◌+◌, ◌<◌, ◌≤◌, ◌^◌, ◌++◌, ◌∷◌, [], max, nat_le, if◌then◌else◌, length, replicate, Some, None, IfOk};
+ghost use Rattle.std.specs.Prelude.{ℕ, true, ◌≡◌, ◌+◌, ◌<◌, ◌≤◌, ◌^◌, ◌++◌, ◌∷◌, [], max, nat_le, if◌then◌else◌, length, replicate, Some, None, IfOk};
 ghost use mathlib.Core.List.{IsPrefix};
 ghost use Rattle.image_model.specs.Change.{change_of};
-ghost use Rattle.marks.specs.Known.{known};
+ghost use Rattle.export_model.specs.Answers.{MayAnswer};
+ghost use Rattle.export_model.specs.OneLog.{IsOneLog};
+ghost use Rattle.export_model.specs.declared.connection.Connection.TheVariants as Connection;
+ghost use Rattle.marks.specs.Client.{HasAsked, HasFlushed, accepting, answering, flushing, new_client, sending};
+ghost use Rattle.marks.specs.Known.{known, knowing, new_pass};
 
-use crate::name::BoardName;
+use crate::name::{BoardName, NoLog, Trust};
 use crate::rule::Law;
-use crate::seats::{KeeperSeat, OrderSeat, Pass, Told};
+use crate::said::Said;
+use crate::seats::{KeeperSeat, OrderSeat, Pass, Roster, Told};
 use crate::view::View;
 use atomic_table::Table;
 use checkpoint::Keeper;
 use disk_model::Disk;
 use image_model::Command;
+use nbd_wire::{Answer, Request};
 use std::alloc::{AllocError, Global};
 use std::marker::PhantomData;
 
@@ -19,14 +25,15 @@ use std::marker::PhantomData;
 ///
 /// No call waits, takes a lock or takes memory. Each is a few loads of a word; a number is raised by one atomic instruction.
 #[derive(Drop)]
-pub struct Board<B: BoardName> {
-    pub(crate) table: Table<Command, View, u64, Law, Global>,
+pub struct Board<B: BoardName, T: Trust = NoLog> {
+    pub(crate) table: Table<Said, View, u64, Law<T>, Global>,
     pub(crate) of: PhantomData<B>,
     ghost named: { table.shared.table_id ≡ B.board },
-    ghost two_words: { table.shared.table_id.words ≡ 2 },
+    ghost three_words: { table.shared.table_id.words ≡ 3 },
+    ghost no_slots: { table.shared.table_id.slots ≡ 0 },
 }
 
-impl<B: BoardName> Board<B> {
+impl<B: BoardName, T: Trust> Board<B, T> {
     /// The accepted number, which the pass knows from then on, and with it the history up to there.
     pub fn look_accepted(&self, pass: &mut Pass<B>) -> u64
         ensures known { known pass.old ≤ result }
@@ -84,40 +91,122 @@ impl<B: BoardName> Board<B> {
         ensures seen { IsPrefix pass.old.history order.old.history }
         ensures pass { pass.new ≡ record pass.old { history = order.old.history; accepted = result } }
     {
-        let last = self.hear_out(&mut order.seat, &mut pass.seat);
-        let shown = self.cut(&mut order.seat);
-        self.take_history(&mut pass.seat, shown);
-        last
+        let shown = self.lend(&mut order.seat, &mut pass.seat);
+        self.give_back(&mut pass.seat, &mut order.seat);
+        shown
+    }
+
+    /// The order shows its number and all of the history to a client that has sent a FLUSH, which then waits for that number, or is done in a
+    /// mode in which none waits: what the client's pass knew begins the history.
+    pub fn await_accepted(&self, order: &mut OrderSeat<B>, pass: &mut Pass<B>) -> u64
+        requires asked { T.logs → pass.old.client.speaks ≡ true → HasFlushed pass.old.client }
+        ensures number { result ≡ order.old.accepted }
+        ensures place { result ≡ B.opening + length order.old.history }
+        ensures same { order.new ≡ order.old }
+        ensures known { known pass.old ≤ result }
+        ensures seen { IsPrefix pass.old.history order.old.history }
+        ensures pass { pass.new
+            ≡ record pass.old { history = order.old.history; accepted = result; client = flushing T.mode result pass.old.client } }
+    {
+        let awaited = self.lend(&mut order.seat, &mut pass.seat);
+        self.await_all(&mut pass.seat);
+        self.give_back(&mut pass.seat, &mut order.seat);
+        awaited
     }
 
     /// The order accepts a command for a pass under the next number, and the accepted number is raised to it: the command is the
-    /// history's last, behind all that the pass knew.
-    ///
-    /// Of the command only proofs keep something.
+    /// history's last, behind all that the pass knew. Where there is a log the pass is a client's that has asked for it, and then waits for
+    /// the number or is done. The command comes back: only proofs keep something of it.
     pub fn raise_accepted(
         &self,
         order: &mut OrderSeat<B>,
         pass: &mut Pass<B>,
-        command: &Command,
-    ) -> u64
-        requires { order.old.accepted + 1 < 2 ^ 64 }
-        ensures number { result ≡ order.old.accepted + 1 }
-        ensures place { result ≡ B.opening + length order.old.history + 1 }
-        ensures order { order.new ≡ record order.old { history = order.old.history ++ change_of command.now ∷ []; accepted = result } }
-        ensures known { known pass.old < result }
+        command: Command,
+    ) -> (u64, Command)
+        requires room { order.old.accepted + 1 < 2 ^ 64 }
+        requires asked { T.logs → HasAsked T.trusted T.image order.old.history (change_of command) pass.old.client }
+        ensures same { result.1 ≡ command }
+        ensures number { result.0 ≡ order.old.accepted + 1 }
+        ensures place { result.0 ≡ B.opening + length order.old.history + 1 }
+        ensures order { order.new ≡ record order.old { history = order.old.history ++ change_of command ∷ []; accepted = result.0 } }
+        ensures known { known pass.old < result.0 }
         ensures seen { IsPrefix pass.old.history order.old.history }
         ensures pass { pass.new
             ≡ record pass.old {
               history = order.new.history;
-              accepted = result;
-              own = record { count = pass.old.own.count + 1; last = Some (record { number = result; change = change_of command.now }) };
+              accepted = result.0;
+              own = record { count = pass.old.own.count + 1; last = Some (record { number = result.0; change = change_of command }) };
+              client = accepting T.mode result.0 pass.old.client;
             } }
     {
-        let last = self.hear_out(&mut order.seat, &mut pass.seat);
-        self.raise(&mut order.seat, last, command);
-        let shown = self.cut(&mut order.seat);
-        self.take_over(&mut pass.seat, shown);
-        last + 1
+        let last = self.lend(&mut order.seat, &mut pass.seat);
+        let command = self.raise(&mut pass.seat, last, command);
+        self.give_back(&mut pass.seat, &mut order.seat);
+        (last + 1, command)
+    }
+
+    /// A client sends a request, which comes back: that is the log's last event. Its pass knows then all that was accepted.
+    pub fn begin(&self, pass: &mut Pass<B>, request: Request) -> Request
+        requires speaks { pass.old.client.speaks ≡ true }
+        requires idle { pass.old.client.state ≡ Connection.Idle }
+        ensures same { result ≡ request }
+        ensures seen { IsPrefix pass.old.history pass.new.history }
+        ensures number { pass.new.accepted ≡ B.opening + length pass.new.history }
+        ensures pass { pass.new ≡ record pass.old { history = pass.new.history; accepted = pass.new.accepted; client = sending pass.old.client request } }
+    {
+        self.send(&mut pass.seat, request)
+    }
+
+    /// A client is answered, as it may be, and the answer comes back: that is the log's last event.
+    pub fn answer(&self, pass: &mut Pass<B>, outcome: Answer) -> Answer
+        requires speaks { pass.old.client.speaks ≡ true }
+        requires may { T.logs → MayAnswer T.trusted T.image pass.old.durable pass.old.history pass.old.client.state outcome }
+        ensures same { result ≡ outcome }
+        ensures pass { pass.new ≡ record pass.old { client = answering pass.old.client outcome } }
+    {
+        self.reply(&mut pass.seat, outcome)
+    }
+
+    /// A client more, which has sent nothing, with a pass that knows the number with which the board opened.
+    pub fn enroll(&self, roster: &mut Roster<B>) -> Pass<B>
+        ensures roster { roster.new ≡ record roster.old { made = roster.old.made + 1 } }
+        ensures pass { result ≡ record (new_pass B.opening) { client = new_client roster.old.made } }
+    {
+        let seat = self.make(&mut roster.seat);
+        Pass {
+            seat,
+            of: PhantomData,
+        }
+    }
+
+    /// A client is gone: the roster keeps what it sent and was answered.
+    pub fn gather(&self, roster: &mut Roster<B>, pass: Pass<B>)
+        requires speaks { pass.client.speaks ≡ true }
+        ensures { roster.new ≡ record roster.old { calls = roster.old.calls ++ record { by = pass.client.by; events = pass.client.mine } ∷ [] } }
+    {
+        let Pass { seat, of: _ } = pass;
+        self.take_client(&mut roster.seat, seat);
+    }
+
+    /// The end. Where there was a log, it is one log of all that clients sent and were answered, of just the history that the order has;
+    /// what it covers is durable.
+    pub fn close(self, order: OrderSeat<B>, keeper: KeeperSeat<B>, roster: Roster<B>)
+        ensures { T.logs → (durable : ℕ) × (keeper.durable ≡ B.opening + durable) × IsOneLog T.trusted T.mode T.image order.history durable roster }
+    {
+        let OrderSeat {
+            seat: raises,
+            of: _,
+        } = order;
+        let KeeperSeat {
+            seat: stores,
+            of: _,
+        } = keeper;
+        let Roster { mut seat, of: _ } = roster;
+        self.take_order(&mut seat, raises);
+        self.take_keeper(&mut seat, stores);
+        let Board { table, of: _ } = self;
+        let closed = table.close_with(seat);
+        closed.free();
     }
 
     /// The order briefs the seat that raises the durable number, which then knows all that was accepted so far: what it knew
@@ -213,8 +302,7 @@ impl<B: BoardName> Board<B> {
     ) -> Result<Vec<Pass<B>>, AllocError>
         requires { keeper.old.durable ≤ keeper.old.accepted }
         ensures same { keeper.new ≡ keeper.old }
-        ensures passes { IfOk result (λ passes. passes.items
-            ≡ replicate count (record { history = keeper.old.history; accepted = keeper.old.accepted; durable = keeper.old.durable; own = record { count = 0; last = None } })) }
+        ensures passes { IfOk result (λ passes. passes.items ≡ replicate count (knowing keeper.old)) }
     {
         let mut passes = Vec::with_capacity(alloc, count)?;
         for _ in 0..count {
@@ -227,7 +315,7 @@ impl<B: BoardName> Board<B> {
     fn new_pass(&self, keeper: &mut KeeperSeat<B>) -> Pass<B>
         requires { keeper.old.durable ≤ keeper.old.accepted }
         ensures same { keeper.new ≡ keeper.old }
-        ensures pass { result ≡ record { history = keeper.old.history; accepted = keeper.old.accepted; durable = keeper.old.durable; own = record { count = 0; last = None } } }
+        ensures pass { result ≡ knowing keeper.old }
     {
         let seat = self.cut(&mut keeper.seat);
         Pass {

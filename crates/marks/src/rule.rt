@@ -1,14 +1,18 @@
+use crate::name::Trust;
+use crate::said::Said;
 use crate::view::View;
 use atomic_table::{Join, Play, Split, TableRule};
-use image_model::Command;
+use std::marker::PhantomData;
 
 /// The rule of a board that opened with a number.
-pub(crate) struct Law;
+pub(crate) struct Law<T: Trust> {
+    of: PhantomData<T>,
+}
 
-impl TableRule<Command, View, u64> for Law {
+impl<T: Trust> TableRule<Said, View, u64> for Law<T> {
     ghost use Rattle.marks.specs.Rule.{IsBoard, first_view};
 
-    ghost holds = { λ _. IsBoard };
+    ghost holds = { λ _. IsBoard T.logs T.trusted T.mode T.image };
 
     ghost first = { first_view };
 }
@@ -16,7 +20,7 @@ impl TableRule<Command, View, u64> for Law {
 /// A look at the accepted number.
 pub(crate) struct LookAccepted;
 
-impl Play<Command, View> for LookAccepted {
+impl Play<Said, View> for LookAccepted {
     ghost use Rattle.marks.specs.inner.Steps.{LooksAccepted};
 
     ghost then = { LooksAccepted };
@@ -25,7 +29,7 @@ impl Play<Command, View> for LookAccepted {
 /// A look at the durable number.
 pub(crate) struct LookDurable;
 
-impl Play<Command, View> for LookDurable {
+impl Play<Said, View> for LookDurable {
     ghost use Rattle.marks.specs.inner.Steps.{LooksDurable};
 
     ghost then = { LooksDurable };
@@ -34,25 +38,27 @@ impl Play<Command, View> for LookDurable {
 /// A seat takes in what it was told.
 pub(crate) struct TakeIn;
 
-impl Play<Command, View> for TakeIn {
+impl Play<Said, View> for TakeIn {
     ghost use Rattle.marks.specs.inner.Steps.{TakesIn};
 
     ghost then = { TakesIn };
 }
 
 /// A command is added to the history, and the accepted number raised.
-pub(crate) struct RaiseAccepted;
+pub(crate) struct RaiseAccepted<T: Trust> {
+    of: PhantomData<T>,
+}
 
-impl Play<Command, View> for RaiseAccepted {
+impl<T: Trust> Play<Said, View> for RaiseAccepted<T> {
     ghost use Rattle.marks.specs.inner.Steps.{RaisesAccepted};
 
-    ghost then = { RaisesAccepted };
+    ghost then = { RaisesAccepted T.mode };
 }
 
 /// The durable number is raised.
 pub(crate) struct RaiseDurable;
 
-impl Play<Command, View> for RaiseDurable {
+impl Play<Said, View> for RaiseDurable {
     ghost use Rattle.marks.specs.inner.Steps.{RaisesDurable};
 
     ghost then = { RaisesDurable };
@@ -61,13 +67,13 @@ impl Play<Command, View> for RaiseDurable {
 /// The base is raised, which stands in proofs alone.
 pub(crate) struct RaiseBase;
 
-impl Play<Command, View> for RaiseBase {
+impl Play<Said, View> for RaiseBase {
     ghost use Rattle.marks.specs.inner.Steps.{RaisesBase};
 
     ghost then = { RaisesBase };
 }
 
-/// The first seat gives the right to raise the durable number and the base to a new one, and forgets the durable number.
+/// The right to raise the durable number and the base goes to a new seat.
 pub(crate) struct GiveKeeper;
 
 impl Split<View> for GiveKeeper {
@@ -100,24 +106,24 @@ impl Join<View> for Hear {
     ghost spent = { nothing };
 }
 
-/// A seat without the right to raise the accepted number takes over the history that another one knows.
-pub(crate) struct TakeHistory;
+/// The right to raise the accepted number goes to a new seat, with the history.
+pub(crate) struct GiveOrder;
 
-impl Join<View> for TakeHistory {
-    ghost use Rattle.marks.specs.inner.Steps.{nothing, taking_history};
+impl Split<View> for GiveOrder {
+    ghost use Rattle.marks.specs.inner.Steps.{order_only, without_order};
 
-    ghost both = { taking_history };
+    ghost left = { without_order };
 
-    ghost spent = { nothing };
+    ghost right = { order_only };
 }
 
-/// A seat without that right takes over the history that another one knows, and its own number.
-pub(crate) struct TakeOver;
+/// A seat takes that right.
+pub(crate) struct TakeOrder;
 
-impl Join<View> for TakeOver {
-    ghost use Rattle.marks.specs.inner.Steps.{nothing, taking_over};
+impl Join<View> for TakeOrder {
+    ghost use Rattle.marks.specs.inner.Steps.{nothing, taking_order};
 
-    ghost both = { taking_over };
+    ghost both = { taking_order };
 
     ghost spent = { nothing };
 }
@@ -129,6 +135,68 @@ impl Join<View> for LearnBase {
     ghost use Rattle.marks.specs.inner.Steps.{learning_base, nothing};
 
     ghost both = { learning_base };
+
+    ghost spent = { nothing };
+}
+
+/// A seat takes the right to raise the durable number and the base.
+pub(crate) struct TakeKeeper;
+
+impl Join<View> for TakeKeeper {
+    ghost use Rattle.marks.specs.inner.Steps.{nothing, taking_keeper};
+
+    ghost both = { taking_keeper };
+
+    ghost spent = { nothing };
+}
+
+/// A client sends a request.
+pub(crate) struct Send;
+
+impl Play<Said, View> for Send {
+    ghost use Rattle.marks.specs.inner.Steps.{Sends};
+
+    ghost then = { Sends };
+}
+
+/// A client is answered.
+pub(crate) struct Reply;
+
+impl Play<Said, View> for Reply {
+    ghost use Rattle.marks.specs.inner.Steps.{Replies};
+
+    ghost then = { Replies };
+}
+
+/// A client's FLUSH waits for the accepted number.
+pub(crate) struct Await<T: Trust> {
+    of: PhantomData<T>,
+}
+
+impl<T: Trust> Play<Said, View> for Await<T> {
+    ghost use Rattle.marks.specs.inner.Steps.{Awaits};
+
+    ghost then = { Awaits T.mode };
+}
+
+/// One client more is made.
+pub(crate) struct MakeClient;
+
+impl Split<View> for MakeClient {
+    ghost use Rattle.marks.specs.inner.Steps.{made_by, making};
+
+    ghost left = { making };
+
+    ghost right = { made_by };
+}
+
+/// A client is gone.
+pub(crate) struct Gather;
+
+impl Join<View> for Gather {
+    ghost use Rattle.marks.specs.inner.Steps.{gathering, nothing};
+
+    ghost both = { gathering };
 
     ghost spent = { nothing };
 }

@@ -1,13 +1,13 @@
 use crate::name::BoardName;
+use crate::said::Said;
 use crate::view::View;
 use atomic_table::Seat;
-use image_model::Command;
 use std::marker::{Model, PhantomData};
 
 /// The seat that raises the accepted number: there is one. It knows all of the history, and a base.
 #[derive(Drop)]
 pub struct OrderSeat<B: BoardName> {
-    pub(crate) seat: Seat<Command, View>,
+    pub(crate) seat: Seat<Said, View>,
     pub(crate) of: PhantomData<B>,
 }
 
@@ -25,7 +25,7 @@ impl<B: BoardName> Model for OrderSeat<B> {
 /// The seat that raises the durable number and the base, which it knows: there is one. It knows a beginning of the history too.
 #[derive(Drop)]
 pub struct KeeperSeat<B: BoardName> {
-    pub(crate) seat: Seat<Command, View>,
+    pub(crate) seat: Seat<Said, View>,
     pub(crate) of: PhantomData<B>,
 }
 
@@ -40,10 +40,11 @@ impl<B: BoardName> Model for KeeperSeat<B> {
     ghost invariant = { λ keeper. IsKeeperSeat B.board B.opening keeper.seat };
 }
 
-/// What one who passes by the board knows of it, and the last number accepted for it with that command. It has no bytes.
+/// What one who passes by the board knows of it, and the last number accepted for it with that command. It may be a client's: then it
+/// knows what that sent and was answered, and what it is at. It has no bytes.
 #[derive(Drop)]
 pub struct Pass<B: BoardName> {
-    pub(crate) seat: Seat<Command, View>,
+    pub(crate) seat: Seat<Said, View>,
     pub(crate) of: PhantomData<B>,
 }
 
@@ -61,7 +62,7 @@ impl<B: BoardName> Model for Pass<B> {
 /// What a seat knew of the history and of the durable number as it told of them. It has no bytes.
 #[derive(Drop)]
 pub struct Told<B: BoardName> {
-    pub(crate) seat: Seat<Command, View>,
+    pub(crate) seat: Seat<Said, View>,
     pub(crate) of: PhantomData<B>,
 }
 
@@ -74,4 +75,22 @@ impl<B: BoardName> Model for Told<B> {
     ghost view = { λ told. marks_of told.seat.me.0 };
 
     ghost invariant = { λ told. IsTold B.board B.opening told.seat };
+}
+
+/// The right to make clients: there is one. It knows what those that are gone sent and were answered. It has no bytes.
+#[derive(Drop)]
+pub struct Roster<B: BoardName> {
+    pub(crate) seat: Seat<Said, View>,
+    pub(crate) of: PhantomData<B>,
+}
+
+impl<B: BoardName> Model for Roster<B> {
+    ghost use Rattle.export_model.specs.OneLog.{RosterState};
+    ghost use Rattle.marks.specs.Seats.{IsRoster, roster_of};
+
+    ghost Value = { RosterState };
+
+    ghost view = { λ roster. roster_of roster.seat.me.0 };
+
+    ghost invariant = { λ roster. IsRoster B.board B.opening roster.seat };
 }

@@ -154,6 +154,7 @@ fn fresh_parts<B: BoardName, D: Disk>(
         board,
         order: order_seat,
         keeper: seat,
+        roster: _,
         passes,
     } = blank.open::<B>(alloc, 1)?;
     let order = fresh_order(alloc, keeper, options.frames, order_seat)?;

@@ -1,7 +1,7 @@
 -- a command that an image takes fits a group, and one that isn't refused fits the backlog
-use Rattle.std.proofs.Common.{◌≡◌, ℕ, ◌+◌, ◌≤◌, Bool, true, false, if◌then◌else◌, nat_le, Some, None, List, [], ◌∷◌, ◌++◌, refl, arith}
+use Rattle.std.proofs.Common.{◌≡◌, ℕ, ◌+◌, ◌≤◌, ◌<◌, ◌==◌, Bool, true, false, if◌then◌else◌, nat_le, Some, None, List, [], ◌∷◌, ◌++◌, refl, arith}
 use Rattle.std.specs.List.{sum}
-use Rattle.std.proofs.lemmas.Bool.{and_parts, leb-true}
+use Rattle.std.proofs.lemmas.Bool.{and_parts, eqb-false, leb-true}
 use Rattle.std.proofs.lemmas.Grind.{common_steps}
 use Rattle.image_model.specs.declared.command.Command.{Command}
 use Rattle.image_model.specs.declared.command.Command.TheVariants.{Put, Clear, Edged}
@@ -45,3 +45,11 @@ module _ (order : OrderState) (command : Command) (none : refusal_of order comma
 
   pub room_left : sum order.bodies + body_of command ≤ 67108864
   room_left = leb-true _ _ parts.1
+
+  pub number_left : order.mark < 18446744073709551616 → order.mark + 1 < 18446744073709551616
+  number_left below = let other = eqb-false order.mark 18446744073709551615 (last order.stopped (order.mark == 18446744073709551615) (has_room order command) _ _ _ none) in omega (arith, other, below)
+    where
+      last : (stopped full room : Bool) (x y z : OrderFault) → (if stopped then Some x else (if full then Some y else (if room then None else Some z))) ≡ None → full ≡ false
+      last true full room x y z is = cc
+      last false true room x y z is = cc
+      last false false room x y z is = refl

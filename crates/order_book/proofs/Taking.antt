@@ -18,14 +18,16 @@ use Rattle.image_model.specs.Bodies.{body_bytes}
 use Rattle.image_model.specs.Change.{Change, Cleared, Edged, IsChange, Written, change_of, edge_count}
 use Rattle.image_model.specs.Dirty.{Dirty, frames_suffice}
 use Rattle.image_model.specs.Edit.{ByteEdit, BytesPut, BytesZeroed, BytesTrimmed, IsEdit, apply_edit, becomes, blocks_met, bytes_of, count_of, is_partial_data, offset_of}
-use Rattle.image_model.specs.Image.{Image, apply, blocks_of, last_of}
+use Rattle.image_model.specs.Image.{Image, apply, apply_all, blocks_of, last_of}
 use Rattle.image_model.specs.laws.Becoming.{becomes_change, length-bytes_of}
 use Rattle.image_model.specs.laws.WholeEdits.{whole_put}
+use Rattle.marks.specs.Client.{HasAsked}
 use Rattle.marks.specs.Known.{PassState}
+use Rattle.marks.specs.declared.view.Client.{Client}
 use Rattle.shared_cache.specs.Blocks.{IsOnce, at_hand, count_missing, edges_missing}
 use Rattle.shared_cache.specs.Cache.{CacheState, bytes_seen}
 use Rattle.order_book.specs.Cached.{ShowsCommand, dirty_of, frames_of, head_count}
-use Rattle.order_book.specs.Edits.{IsMissing, TakesEdit, bytes_or, image_in, image_with}
+use Rattle.order_book.specs.Edits.{HasAskedEdit, IsMissing, TakesEdit, bytes_or, image_in, image_with}
 use Rattle.order_book.specs.inner.Edits.{IsWholePut, edge_bytes, edges_given, put_bytes, whole_change, zeroed_block}
 use Rattle.order_book.specs.Order.{OrderState, with_command}
 use Rattle.order_book.specs.Shown.{ShowsImage}
@@ -35,18 +37,30 @@ use Rattle.order_book.proofs.Editing.{edged_is, needed_ends, put_becomes, unedge
 use Rattle.order_book.proofs.Frames.{finds_frames}
 
 -- what the order took as a command whose change the edit becomes
-pub makes_take : (edit : ByteEdit) (image : Image) (old new : OrderState) (before after : PassState) (command : Command) (number : ℕ)
+pub makes_take : (edit : ByteEdit) (image : Image) (old new : OrderState) (before after : PassState) (command : Command) (number : ℕ) (client : Client)
     → change_of command ≡ becomes edit image → number ≡ old.mark + 1 → new ≡ with_command old command → ShowsCommand (change_of command) old.cache new.cache
     → ((given : Image) → ShowsImage given old.cache → ShowsImage (apply (change_of command) given) new.cache)
-    → after ≡ record before { history = new.history; accepted = number; own = record { count = before.own.count + 1; last = Some (record { number = number; change = change_of command }) } }
+    → after ≡ record before { history = new.history; accepted = number; own = record { count = before.own.count + 1; last = Some (record { number = number; change = change_of command }) }; client = client }
     → TakesEdit edit image old new before after
-makes_take edit image old new before after command number is next taken seen shown pass = record {
+makes_take edit image old new before after command number client is next taken seen shown pass = record {
   command = command;
   is = is;
   taken = taken;
-  pass = pass ∙ (λ i. record before { history = new.history; accepted = next i; own = record { count = before.own.count + 1; last = Some (record { number = next i; change = is i }) } });
+  pass = pass ∙ (λ i. record before { history = new.history; accepted = next i; own = record { count = before.own.count + 1; last = Some (record { number = next i; change = is i }) }; client = sym (ap (λ (p : PassState). p.client) pass) i });
   seen = subst (λ (change : Change). ShowsCommand change old.cache new.cache) is seen;
   shown = subst (λ (change : Change). (given : Image) → ShowsImage given old.cache → ShowsImage (apply change given) new.cache) is shown;
+}
+
+-- what a client has asked for whose edit becomes the same over the image that it is taken over and the history's own
+pub has_asked : (trusted : Type 0) (image : Image) (order : OrderState) (edit : ByteEdit) (client : Client) (over : Image) → HasAskedEdit trusted image order edit client
+    → (trusted → becomes edit over ≡ becomes edit (apply_all order.history image)) → HasAsked trusted image order.history (becomes edit over) client
+has_asked trusted image order edit client over asked same = record {
+  speaks = asked.speaks;
+  request = asked.request;
+  asks = asked.asks;
+  write = asked.write;
+  own = (over, ap (λ (e : ByteEdit). becomes e over) asked.asked);
+  right = λ t. ap (λ (e : ByteEdit). becomes e (apply_all order.history image)) asked.asked ∙ sym (same t);
 }
 
 -- a put of whole blocks

@@ -2,15 +2,22 @@
 use Rattle.std.specs.Prelude.{ℕ, ◌≡◌, ◌+◌, ◌/◌, ◌%◌, ◌==◌, ◌&&◌, Bool, true, false, not, if◌then◌else◌, List, [], length, slice_index, Option, Some, None}
 use Rattle.alloc_map.specs.Codes.{state_at}
 use Rattle.device_image.specs.Keeper.{KeeperState}
+use Rattle.device_image.specs.Holds.{Holds, joined}
+use Rattle.disk_model.specs.Disk.{State}
 use Rattle.disk_model.specs.Faults.{counted}
 use Rattle.image_model.specs.declared.command.Command.{Command}
 use Rattle.image_model.specs.declared.command.Kind.TheVariants.{Data}
-use Rattle.image_model.specs.Change.{change_of}
+use Rattle.image_model.specs.Change.{Change, change_of}
 use Rattle.image_model.specs.Edit.{ByteEdit, BytesPut, BytesZeroed, BytesTrimmed, becomes, meets, spans}
-use Rattle.image_model.specs.Image.{Image, apply}
+use Rattle.image_model.specs.Image.{Image, apply, apply_all}
+use Rattle.nbd_wire.specs.Request.{Message}
+use Rattle.export_model.specs.Log.{edit_asked, is_write}
+use Rattle.export_model.specs.declared.connection.Connection.TheVariants.{Requested}
+use Rattle.marks.specs.declared.view.Client.{Client}
 use Rattle.marks.specs.Known.{PassState}
 use Rattle.order_book.specs.Cached.{ShowsCommand}
 use Rattle.order_book.specs.Order.{OrderState, refusal_for, with_command}
+use Rattle.order_book.specs.Reading.{IsCleanAt}
 use Rattle.order_book.specs.Shown.{ShowsImage}
 use Rattle.order_book.specs.declared.fault.OrderFault.{OrderFault}
 use Rattle.order_book.specs.declared.fault.OrderFault.TheVariants.{NoMemory, DeviceFault, NumbersFull, Failed, NoRoom, Stopped}
@@ -62,10 +69,29 @@ pub record TakesEdit (edit : ByteEdit) (image : Image) (old new : OrderState) (b
   pub command : Command
   pub is : change_of command ≡ becomes edit image
   pub taken : new ≡ with_command old command
-  pub pass : after ≡ record before { history = new.history; accepted = old.mark + 1; own = record { count = before.own.count + 1; last = Some (record { number = old.mark + 1; change = becomes edit image }) } }
+  pub pass : after ≡ record before { history = new.history; accepted = old.mark + 1; own = record { count = before.own.count + 1; last = Some (record { number = old.mark + 1; change = becomes edit image }) }; client = after.client }
   -- what is known then of the image, block by block and as a whole
   pub seen : ShowsCommand (becomes edit image) old.cache new.cache
   pub shown : (other : Image) → ShowsImage other old.cache → ShowsImage (apply (becomes edit image) other) new.cache
+
+-- The image is the order's own: memory shows it, and the keeper of an honest device holds what the order has clean.
+pub record IsKnownBy {D : Type 0} (state : D → State) (honest : D → Type 0) (keeper : KeeperState D) (order : OrderState) (image : Image) : Type 0 where
+  pub sure : honest keeper.disk
+  pub base : Image
+  pub fronts : List (List Change)
+  pub last : List Change
+  pub holds : Holds keeper (state keeper.disk) base fronts last
+  pub shows : ShowsImage image order.cache
+  pub clean : IsCleanAt base (joined fronts) image order.dirty
+
+-- A client has asked for the edit, and where the device is trusted memory shows what the history made of the image.
+pub record HasAskedEdit (trusted : Type 0) (image : Image) (order : OrderState) (edit : ByteEdit) (client : Client) : Type 0 where
+  pub speaks : client.speaks ≡ true
+  pub request : Message
+  pub asks : client.state ≡ Requested request
+  pub write : is_write request ≡ true
+  pub asked : edit_asked request ≡ edit
+  pub shows : trusted → ShowsImage (apply_all order.history image) order.cache
 
 -- the keeper after an edit was refused, and its device as it then is: memory may be refused once the device was read
 abbrev pub keeper_after : {D : Type 0} → OrderFault → KeeperState D → D → KeeperState D

@@ -10,6 +10,7 @@ ghost use Rattle.device_image.specs.Holds.{Holds, is_written, joined};
 ghost use Rattle.image_model.specs.Change.{Change, change_of};
 ghost use Rattle.image_model.specs.declared.command.Kind.TheVariants.{Data};
 ghost use Rattle.journal_format.specs.Reading.{IsOnlyRead};
+ghost use Rattle.marks.specs.Client.{HasAsked, HasFlushed, accepting, flushing};
 ghost use Rattle.marks.specs.Known.{known};
 ghost use Rattle.image_model.specs.Command.{IsCommand};
 ghost use Rattle.image_model.specs.Image.{Image, apply as image_after};
@@ -36,7 +37,7 @@ use disk_model::Disk;
 use image_model::{Command, Kind};
 use journal::Group;
 use journal_format::MOST_BODY_BYTES;
-use marks::{Board, BoardName, KeeperSeat, OrderSeat, Pass, Told};
+use marks::{Board, BoardName, KeeperSeat, OrderSeat, Pass, Told, Trust};
 use shared_cache::{Cache, Missing};
 use std::alloc::{AllocError, Global};
 use std::marker::Model;
@@ -233,7 +234,7 @@ impl<B: BoardName> Order<B> {
     }
 
     /// The number of the last command that was accepted, shown to a pass with the history: what a FLUSH waits for.
-    pub fn show_mark(&mut self, board: &Board<B>, pass: &mut Pass<B>) -> u64
+    pub fn show_mark<T: Trust>(&mut self, board: &Board<B, T>, pass: &mut Pass<B>) -> u64
         ensures mark { result ≡ self.old.mark }
         ensures place { result ≡ B.opening + length self.old.history }
         ensures same { self.new ≡ self.old }
@@ -244,8 +245,22 @@ impl<B: BoardName> Order<B> {
         board.show_accepted(&mut self.seat, pass)
     }
 
+    /// The same, to a client that has sent a FLUSH: it waits for that number, or is done in a mode in which none waits.
+    pub fn await_mark<T: Trust>(&mut self, board: &Board<B, T>, pass: &mut Pass<B>) -> u64
+        requires asked { T.logs → pass.old.client.speaks ≡ true → HasFlushed pass.old.client }
+        ensures mark { result ≡ self.old.mark }
+        ensures place { result ≡ B.opening + length self.old.history }
+        ensures same { self.new ≡ self.old }
+        ensures known { known pass.old ≤ result }
+        ensures knew { IsPrefix pass.old.history self.old.history }
+        ensures pass { pass.new
+            ≡ record pass.old { history = self.old.history; accepted = result; client = flushing T.mode result pass.old.client } }
+    {
+        board.await_accepted(&mut self.seat, pass)
+    }
+
     /// The history as it is, for the keeper's seat to be told of.
-    pub fn note(&mut self, board: &Board<B>) -> Told<B>
+    pub fn note<T: Trust>(&mut self, board: &Board<B, T>) -> Told<B>
         ensures same { self.new ≡ self.old }
         ensures told { (result.history ≡ self.old.history) × (result.accepted ≡ self.old.mark) }
     {
@@ -253,7 +268,7 @@ impl<B: BoardName> Order<B> {
     }
 
     /// Compares what was told with the history: that begins it.
-    pub fn compare(&mut self, board: &Board<B>, told: Told<B>)
+    pub fn compare<T: Trust>(&mut self, board: &Board<B, T>, told: Told<B>)
         ensures same { self.new ≡ self.old }
         ensures told { IsPrefix told.history self.old.history }
     {
@@ -262,7 +277,7 @@ impl<B: BoardName> Order<B> {
 
     /// The keeper's seat meets the order, and knows then all of it: what it knew begins the history, and the order's base is no
     /// greater than its own.
-    pub fn meet(&mut self, board: &Board<B>, keeper: &mut KeeperSeat<B>)
+    pub fn meet<T: Trust>(&mut self, board: &Board<B, T>, keeper: &mut KeeperSeat<B>)
         ensures same { self.new ≡ self.old }
         ensures knew { IsPrefix keeper.old.history self.old.history }
         ensures base { self.old.base ≤ keeper.old.base }
@@ -272,7 +287,7 @@ impl<B: BoardName> Order<B> {
     }
 
     /// Learns the base of the keeper's seat.
-    pub fn learn_base(&mut self, board: &Board<B>, seat: &mut KeeperSeat<B>)
+    pub fn learn_base<T: Trust>(&mut self, board: &Board<B, T>, seat: &mut KeeperSeat<B>)
         ensures order { self.new ≡ record self.old { base = max self.old.base seat.old.base } }
         ensures same { seat.new ≡ seat.old }
     {
@@ -283,13 +298,14 @@ impl<B: BoardName> Order<B> {
     /// back.
     ///
     /// The refusals, in the order in which they are looked for: 18 (stopped), 9 (numbers full), 17 (no room), 0 (no memory).
-    pub fn accept(
+    pub fn accept<T: Trust>(
         &mut self,
-        board: &Board<B>,
+        board: &Board<B, T>,
         pass: &mut Pass<B>,
         command: Command,
     ) -> Result<u64, (OrderFault, Command)>
-        requires { IsCommand (length self.old.cache.states) command }
+        requires command { IsCommand (length self.old.cache.states) command }
+        requires asked { T.logs → HasAsked T.trusted T.image self.old.history (change_of command) pass.old.client }
         ensures number { IfOk result (λ number. number ≡ self.old.mark + 1) }
         ensures accepted { OnOk result (self.new ≡ with_command self.old command) }
         ensures view { OnOk result (ShowsCommand (change_of command) self.old.cache self.new.cache) }
@@ -309,6 +325,7 @@ impl<B: BoardName> Order<B> {
               history = self.new.history;
               accepted = number;
               own = record { count = pass.old.own.count + 1; last = Some (record { number = number; change = change_of command }) };
+              client = accepting T.mode number pass.old.client;
             }) }
         ensures pass_unchanged { OnErr result (pass.new ≡ pass.old) }
 
@@ -327,13 +344,14 @@ impl<B: BoardName> Order<B> {
     }
 
     // Takes a command that nothing but memory refuses.
-    fn take(
+    fn take<T: Trust>(
         &mut self,
-        board: &Board<B>,
+        board: &Board<B, T>,
         pass: &mut Pass<B>,
         command: Command,
     ) -> Result<u64, (OrderFault, Command)>
         requires command { IsCommand (length self.old.cache.states) command }
+        requires asked { T.logs → HasAsked T.trusted T.image self.old.history (change_of command) pass.old.client }
         requires free { refusal_of self.old command ≡ None }
         ensures number { IfOk result (λ number. number ≡ self.old.mark + 1) }
         ensures accepted { OnOk result (self.new ≡ with_command self.old command) }
@@ -349,6 +367,7 @@ impl<B: BoardName> Order<B> {
               history = self.new.history;
               accepted = number;
               own = record { count = pass.old.own.count + 1; last = Some (record { number = number; change = change_of command }) };
+              client = accepting T.mode number pass.old.client;
             }) }
         ensures pass_unchanged { OnErr result (pass.new ≡ pass.old) }
         ensures memory { IfErr result (λ refused. refused.0 ≡ OrderFault.NoMemory) }
@@ -359,7 +378,8 @@ impl<B: BoardName> Order<B> {
         let Ok(()) = apply(&mut self.cache, &command, self.mark + 1) else {
             return Err((OrderFault::NoMemory, command));
         };
-        self.mark = board.raise_accepted(&mut self.seat, pass, &command);
+        let (number, command) = board.raise_accepted(&mut self.seat, pass, command);
+        self.mark = number;
         let body = command.body_bytes();
         self.backlog.push(body as u32);
         self.pending.push(command);
@@ -448,9 +468,9 @@ impl<B: BoardName> Order<B> {
 
     /// Raises the durable number to the keeper's count, where that lies between the durable number and the last accepted one,
     /// and the board's with it.
-    pub fn publish<D: Disk>(
+    pub fn publish<D: Disk, T: Trust>(
         &mut self,
-        board: &Board<B>,
+        board: &Board<B, T>,
         seat: &mut KeeperSeat<B>,
         keeper: &Keeper<D>,
     )

@@ -1,4 +1,5 @@
 mod Bytes
+mod Clients
 mod Cuts
 mod Here
 mod InMemory

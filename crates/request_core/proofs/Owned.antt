@@ -128,7 +128,7 @@ module _ (opening : ℕ) (request : Message) (kept : Mode) (old new : OrderState
         earlier = old.history;
         knew = knew;
         place = omega (arith, place);
-        pass = taken.pass ∙ ap (λ (h : List Change). record before { history = h; accepted = old.mark + 1; own = record { count = before.own.count + 1; last = Some (record { number = old.mark + 1; change = becomes (edit_asked request) image }) } }) history;
+        pass = taken.pass ∙ ap (λ (h : List Change). record before { history = h; accepted = old.mark + 1; own = record { count = before.own.count + 1; last = Some (record { number = old.mark + 1; change = becomes (edit_asked request) image }) }; client = after.client }) history;
       }
 
   by_waits : (waits : Bool) → IsPassServed opening request old.mark new.mark (served_after waits request.head.cookie (old.mark + 1)) before after

@@ -15,7 +15,8 @@ use Rattle.nbd_wire.specs.declared.error.Errno.TheVariants.{Io}
 use Rattle.nbd_wire.specs.declared.message.Answer.TheVariants.{Refused}
 use Rattle.order_book.specs.Edits.{NeedsDevice as NeedsOld}
 use Rattle.order_book.specs.Order.{OrderState, has_room_for}
-use Rattle.request_core.specs.Reading.{IsHeldReadServed, IsKnownBy, IsReadServed, IsStatusServed, IsUnread}
+use Rattle.request_core.specs.Reading.{IsHeldReadServed, IsReadServed, IsStatusServed, IsUnread}
+use Rattle.order_book.specs.Edits.{IsKnownBy}
 use Rattle.request_core.specs.Serving.{IsWriteServed, ready_for, served_after}
 use Rattle.request_core.specs.declared.serving.Served.{Served}
 use Rattle.shared_cache.specs.Cache.{LacksBytes}

@@ -56,16 +56,6 @@ pub record IsRead {D : Type 0} (state : D → State) (faults : D → ℕ) (hones
   pub in_frames : keeper.failed ≡ true → new ≡ old
   pub there : keeper.failed ≡ true → (k : ℕ) → k < head.length → bytes_seen old.cache ((head.offset + k) / 4096) ≢ None
 
--- The image is the order's own: memory shows it, and the keeper of an honest device holds what the order has clean.
-pub record IsKnownBy {D : Type 0} (state : D → State) (honest : D → Type 0) (keeper : KeeperState D) (order : OrderState) (image : Image) : Type 0 where
-  pub sure : honest keeper.disk
-  pub base : Image
-  pub fronts : List (List Change)
-  pub last : List Change
-  pub holds : Holds keeper (state keeper.disk) base fronts last
-  pub shows : ShowsImage image order.cache
-  pub clean : IsCleanAt base (joined fronts) image order.dirty
-
 -- A call of the device failed, or has failed before: the answer is EIO, and the order is stopped.
 pub record IsUnread {D : Type 0} (state : D → State) (faults : D → ℕ) (honest : D → Type 0) (head : RequestHead) (old new : OrderState) (keeper next : KeeperState D) (result : Served) : Type 0 where
   pub refusal : KeeperFault

@@ -5,7 +5,10 @@ use Rattle.image_model.specs.Change.{Change, IsChange, change_of}
 use Rattle.image_model.specs.Edit.{becomes}
 use Rattle.image_model.specs.declared.command.Command.{Command}
 use Rattle.image_model.specs.declared.geometry.Geometry.{Geometry}
-use Rattle.image_model.specs.Image.{Image, apply}
+use Rattle.image_model.specs.Image.{Image, apply, apply_all}
+use Rattle.marks.specs.Client.{accepting, flushing}
+use Rattle.marks.specs.declared.view.Client.{Client}
+use Rattle.export_model.specs.declared.connection.Connection.TheVariants.{Requested}
 use Rattle.marks.specs.Known.{PassState, known}
 use Rattle.nbd_wire.specs.Request.{Message}
 use Rattle.nbd_wire.specs.declared.error.Errno.TheVariants as errno
@@ -70,6 +73,7 @@ pub record IsAcceptedFor (opening : ℕ) (request : Message) (number : ℕ) (old
     history = earlier ++ becomes (edit_asked request) image ∷ [];
     accepted = number;
     own = record { count = old.own.count + 1; last = Some (record { number = number; change = becomes (edit_asked request) image }) };
+    client = new.client;
   }
 
 -- All up to a number was shown to a pass, which knew no more: what it knew begins what it knows then.
@@ -77,7 +81,7 @@ pub record IsShownTo (opening number : ℕ) (old new : PassState) : Type 0 where
   pub known_is : known old ≤ number
   pub knew : IsPrefix old.history new.history
   pub place : number ≡ opening + length new.history
-  pub pass : new ≡ record old { history = new.history; accepted = number }
+  pub pass : new ≡ record old { history = new.history; accepted = number; client = new.client }
 
 -- What a pass knows whose request was answered and ordered no command. Ok is the answer to a FLUSH that doesn't wait: all of the order
 -- was shown to its pass. All else leaves the pass.
@@ -95,3 +99,23 @@ IsPassServed opening request before after (served.Ready reply) old new = MatchBo
 IsPassServed opening request before after (served.Wait number) old new =
     MatchBool (is_flush request) (IsShownTo opening number old new) (IsAcceptedFor opening request number old new)
 IsPassServed opening request before after (served.NoRoom back) old new = new ≡ old
+
+-- The client of a pass has sent the request, and where the device is trusted memory shows what the history made of the image.
+pub record HasSent (trusted : Type 0) (image : Image) (order : OrderState) (request : Message) (client : Client) : Type 0 where
+  pub speaks : client.speaks ≡ true
+  pub asks : client.state ≡ Requested request
+  pub shows : trusted → ShowsImage (apply_all order.history image) order.cache
+
+-- What a client is at whose request was answered and ordered no command: Ok is the answer to a FLUSH that doesn't wait, whose state is then
+-- that of one that is done. All else leaves it at its request.
+abbrev pub IsClientAnswered : Mode → ℕ → Answer → Client → Client → Type 0
+IsClientAnswered mode number Done old new = new ≡ flushing mode number old
+IsClientAnswered mode number (Refused error) old new = new ≡ old
+IsClientAnswered mode number (Bytes read) old new = new ≡ old
+IsClientAnswered mode number (States runs) old new = new ≡ old
+
+-- What a client is at whose request was served, where the last number of the order went from one to another.
+abbrev pub IsClientServed : Mode → Message → ℕ → ℕ → Served → Client → Client → Type 0
+IsClientServed mode request before after (served.Ready reply) old new = MatchBool (nat_lt before after) (new ≡ accepting mode after old) (IsClientAnswered mode after reply.answer old new)
+IsClientServed mode request before after (served.Wait number) old new = MatchBool (is_flush request) (new ≡ flushing mode number old) (new ≡ accepting mode number old)
+IsClientServed mode request before after (served.NoRoom back) old new = new ≡ old

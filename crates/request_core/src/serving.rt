@@ -1,11 +1,12 @@
 ghost use Rattle.std.specs.Prelude.{◌≡◌, ◌≢◌, ◌/◌, ◌<◌, ◌↔◌, true, false, [], IfOk, IfErr, IsErr, OnErr, Result, length};
 ghost use Rattle.nbd_wire.specs.declared.error.Errno.{Errno};
 ghost use Rattle.image_model.specs.Edit.{blocks_met};
-ghost use Rattle.order_book.specs.Edits.{NeedsDevice as NeedsOld};
+ghost use Rattle.image_model.specs.Image.{apply_all};
+ghost use Rattle.order_book.specs.Edits.{IsKnownBy, NeedsDevice as NeedsOld};
 ghost use Rattle.order_book.specs.Shown.{ShowsImage};
 ghost use Rattle.request_core.specs.Outcomes.{IsServedBy, IsServedHere, IsWriteAsked, NeedsDevice};
 ghost use Rattle.shared_cache.specs.Cache.{LacksBytes};
-ghost use Rattle.request_core.specs.Serving.{IsPassServed, IsWriteServed, ready_for, served_after};
+ghost use Rattle.request_core.specs.Serving.{HasSent, IsClientServed, IsPassServed, IsWriteServed, ready_for, served_after};
 ghost use Rattle.export_model.specs.Log.{edit_asked, flush_waits, is_write, waits_for_store};
 ghost use Rattle.export_model.specs.Verdict.{IsServedRange, verdict};
 ghost use Rattle.export_model.specs.declared.action.Action.{Action};
@@ -18,7 +19,7 @@ use checkpoint::Keeper;
 use disk_model::Disk;
 use export_model::{Action, Mode};
 use image_model::Geometry;
-use marks::{Board, BoardName, Pass};
+use marks::{Board, BoardName, Pass, Trust};
 use nbd_wire::{
     Answer, BLOCK_STATUS, CommandFlags, Errno, FLUSH, READ, Reply, Request, RequestHead,
     SessionFlags,
@@ -54,16 +55,17 @@ pub struct NeedsKeeper(pub Request);
 /// READ and a BLOCK_STATUS show the image after all of the order.
 ///
 /// A write command for which there is no room comes back, and so does a request for which the device has to be asked.
-pub fn serve_held<B: BoardName>(
+pub fn serve_held<B: BoardName, T: Trust>(
     alloc: Global,
     request: Request,
     order: &mut Order<B>,
-    board: &Board<B>,
+    board: &Board<B, T>,
     pass: &mut Pass<B>,
     terms: Terms,
 ) -> Result<Served, NeedsKeeper>
     requires kind { request.head.kind ≢ 2 }
     requires blocks { length order.old.cache.states ≡ terms.geometry.blocks }
+    requires asked { T.logs → HasSent T.trusted T.image order.old request pass.old.client }
     ensures blocks { length order.new.cache.states ≡ length order.old.cache.states }
     ensures serves { IfOk result (λ served. IsServedHere (verdict request.head terms.geometry terms.flags) request terms.geometry terms.mode order.old order.new served) }
 
@@ -77,6 +79,7 @@ pub fn serve_held<B: BoardName>(
     // that, and the history that it then knows begins with the one that it knew. One for which a command was accepted knows all of
     // the order's.
     ensures pass { IfOk result (λ served. IsPassServed B.opening request order.old.mark order.new.mark served pass.old pass.new) }
+    ensures client { IfOk result (λ served. IsClientServed T.mode request order.old.mark order.new.mark served pass.old.client pass.new.client) }
     ensures grown { order.old.mark < order.new.mark → pass.new.history ≡ order.new.history }
 {
     let head = request.head();
@@ -89,11 +92,11 @@ pub fn serve_held<B: BoardName>(
 }
 
 // Serves a request that passes judgement, over an order that isn't stopped.
-fn serve_passed<B: BoardName>(
+fn serve_passed<B: BoardName, T: Trust>(
     alloc: Global,
     request: Request,
     order: &mut Order<B>,
-    board: &Board<B>,
+    board: &Board<B, T>,
     pass: &mut Pass<B>,
     terms: Terms,
 ) -> Result<Served, NeedsKeeper>
@@ -101,17 +104,19 @@ fn serve_passed<B: BoardName>(
     requires range { request.head.kind ≢ 3 → IsServedRange request.head terms.geometry }
     requires works { order.old.stopped ≡ false }
     requires blocks { length order.old.cache.states ≡ terms.geometry.blocks }
+    requires asked { T.logs → HasSent T.trusted T.image order.old request pass.old.client }
     ensures blocks { length order.new.cache.states ≡ length order.old.cache.states }
     ensures serves { IfOk result (λ served. IsServedHere (Ok Action.Serve) request terms.geometry terms.mode order.old order.new served) }
     ensures needs { IsErr result ↔ NeedsDevice (Ok Action.Serve) request order.old }
     ensures handed_back { IfErr result (λ back. back.0 ≡ request) }
     ensures unchanged { OnErr result ((order.new ≡ order.old) × (pass.new ≡ pass.old)) }
     ensures pass { IfOk result (λ served. IsPassServed B.opening request order.old.mark order.new.mark served pass.old pass.new) }
+    ensures client { IfOk result (λ served. IsClientServed T.mode request order.old.mark order.new.mark served pass.old.client pass.new.client) }
     ensures grown { order.old.mark < order.new.mark → pass.new.history ≡ order.new.history }
 {
     let head = request.head();
     match head.kind {
-        FLUSH => Ok(flushed(&head, terms.mode, order.show_mark(board, pass))),
+        FLUSH => Ok(flushed(&head, terms.mode, order.await_mark(board, pass))),
         READ => {
             let blocks = Blocks::of(&head);
             if order.holds(blocks.first, blocks.count) {
@@ -129,18 +134,20 @@ fn serve_passed<B: BoardName>(
 ///
 /// The device is asked by such a request alone; where a call of it fails the order is stopped, and a group in hand is the
 /// caller's to put back.
-pub fn serve_with_keeper<B: BoardName, D: Disk>(
+pub fn serve_with_keeper<B: BoardName, D: Disk, T: Trust>(
     alloc: Global,
     request: Request,
     order: &mut Order<B>,
     keeper: &mut Keeper<D>,
-    board: &Board<B>,
+    board: &Board<B, T>,
     pass: &mut Pass<B>,
     terms: Terms,
 ) -> Served
     requires kind { request.head.kind ≢ 2 }
     requires blocks { length order.old.cache.states ≡ terms.geometry.blocks }
     requires device { terms.geometry ≡ keeper.old.geometry }
+    requires asked { T.logs → HasSent T.trusted T.image order.old request pass.old.client }
+    requires known { T.logs → T.trusted → IsKnownBy D.state D.honest keeper.old order.old (apply_all order.old.history T.image) }
     ensures blocks { length order.new.cache.states ≡ length order.old.cache.states }
     ensures geometry { keeper.new.geometry ≡ keeper.old.geometry }
     ensures count { keeper.new.count ≡ keeper.old.count }
@@ -159,6 +166,7 @@ pub fn serve_with_keeper<B: BoardName, D: Disk>(
     // that, and the history that it then knows begins with the one that it knew. One for which a command was accepted knows all of
     // the order's.
     ensures pass { IsPassServed B.opening request order.old.mark order.new.mark result pass.old pass.new }
+    ensures client { IsClientServed T.mode request order.old.mark order.new.mark result pass.old.client pass.new.client }
     ensures grown { order.old.mark < order.new.mark → pass.new.history ≡ order.new.history }
 {
     match serve_held(alloc, request, order, board, pass, terms) {
@@ -181,11 +189,11 @@ pub(crate) fn refused(cookie: u64, errno: Errno) -> Served
 
 // Gives a write request that passes judgement its place in the order, which isn't stopped, where no old byte that it takes is
 // missing.
-fn serve_held_edit<B: BoardName>(
+fn serve_held_edit<B: BoardName, T: Trust>(
     alloc: Global,
     request: Request,
     order: &mut Order<B>,
-    board: &Board<B>,
+    board: &Board<B, T>,
     pass: &mut Pass<B>,
     terms: Terms,
 ) -> Result<Served, NeedsKeeper>
@@ -193,12 +201,14 @@ fn serve_held_edit<B: BoardName>(
     requires range { IsServedRange request.head terms.geometry }
     requires works { order.old.stopped ≡ false }
     requires blocks { length order.old.cache.states ≡ terms.geometry.blocks }
+    requires asked { T.logs → HasSent T.trusted T.image order.old request pass.old.client }
     ensures blocks { length order.new.cache.states ≡ length order.old.cache.states }
     ensures served { IfOk result (λ served. IsWriteServed request terms.geometry terms.mode (λ image. ShowsImage image order.old.cache) order.old order.new served) }
     ensures needs { IsErr result ↔ NeedsOld order.old (edit_asked request) }
     ensures handed_back { IfErr result (λ back. back.0 ≡ request) }
     ensures unchanged { OnErr result ((order.new ≡ order.old) × (pass.new ≡ pass.old)) }
     ensures pass { IfOk result (λ served. IsPassServed B.opening request order.old.mark order.new.mark served pass.old pass.new) }
+    ensures client { IfOk result (λ served. IsClientServed T.mode request order.old.mark order.new.mark served pass.old.client pass.new.client) }
     ensures grown { order.old.mark < order.new.mark → pass.new.history ≡ order.new.history }
 {
     let (head, edit) = split(request);
@@ -216,12 +226,12 @@ fn serve_held_edit<B: BoardName>(
 
 // Gives a write request that passes judgement its place in the order, which isn't stopped; old bytes that aren't in memory are
 // read from the device.
-fn serve_edit<B: BoardName, D: Disk>(
+fn serve_edit<B: BoardName, D: Disk, T: Trust>(
     alloc: Global,
     request: Request,
     order: &mut Order<B>,
     keeper: &mut Keeper<D>,
-    board: &Board<B>,
+    board: &Board<B, T>,
     pass: &mut Pass<B>,
     terms: Terms,
 ) -> Served
@@ -231,6 +241,8 @@ fn serve_edit<B: BoardName, D: Disk>(
     requires blocks { length order.old.cache.states ≡ terms.geometry.blocks }
     requires device { terms.geometry ≡ keeper.old.geometry }
     requires needs { NeedsOld order.old (edit_asked request) }
+    requires asked { T.logs → HasSent T.trusted T.image order.old request pass.old.client }
+    requires known { T.logs → T.trusted → IsKnownBy D.state D.honest keeper.old order.old (apply_all order.old.history T.image) }
     ensures blocks { length order.new.cache.states ≡ length order.old.cache.states }
     ensures geometry { keeper.new.geometry ≡ keeper.old.geometry }
     ensures count { keeper.new.count ≡ keeper.old.count }
@@ -238,6 +250,7 @@ fn serve_edit<B: BoardName, D: Disk>(
     ensures honest { D.honest keeper.new.disk ↔ D.honest keeper.old.disk }
     ensures asked { IsWriteAsked D.state D.faults D.honest request terms.geometry terms.mode order.old order.new keeper.old keeper.new result }
     ensures pass { IsPassServed B.opening request order.old.mark order.new.mark result pass.old pass.new }
+    ensures client { IsClientServed T.mode request order.old.mark order.new.mark result pass.old.client pass.new.client }
     ensures grown { order.old.mark < order.new.mark → pass.new.history ≡ order.new.history }
 {
     let (head, edit) = split(request);

@@ -172,6 +172,7 @@ fn first_parts<B: BoardName, D: Disk>(
         board,
         order: order_seat,
         keeper: seat,
+        roster: _,
         passes,
     } = blank.open::<B>(alloc, CONNECTIONS)?;
     let order = fresh_order(alloc, keeper, setup.frames, order_seat)?;

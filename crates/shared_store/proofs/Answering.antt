@@ -20,7 +20,8 @@ use Rattle.order_book.specs.Order.{OrderState}
 use Rattle.order_book.specs.Shown.{ShowsImage}
 use Rattle.order_book.specs.declared.span.Span.{Span}
 use Rattle.request_core.specs.Outcomes.{IsPassed, IsServedBy, IsServedHere}
-use Rattle.request_core.specs.Reading.{IsHeldRead, IsKnownBy, IsRead, IsReadOverServed, IsStatusServed}
+use Rattle.request_core.specs.Reading.{IsHeldRead, IsRead, IsReadOverServed, IsStatusServed}
+use Rattle.order_book.specs.Edits.{IsKnownBy}
 use Rattle.request_core.specs.Serving.{IsWriteServed, ready_for, served_after}
 use Rattle.request_core.specs.declared.serving.Served.{Served}
 use Rattle.shared_cache.specs.Cache.{bytes_seen}

@@ -12,7 +12,8 @@ use Rattle.order_book.specs.Order.{OrderState}
 use Rattle.order_book.specs.Shown.{ShowsImage}
 use Rattle.order_book.specs.declared.span.Span.{Span}
 use Rattle.request_core.specs.Outcomes.{IsPassed, IsServedBy, IsServedHere}
-use Rattle.request_core.specs.Reading.{IsKnownBy, IsReadOverServed}
+use Rattle.request_core.specs.Reading.{IsReadOverServed}
+use Rattle.order_book.specs.Edits.{IsKnownBy}
 use Rattle.request_core.specs.Serving.{IsWriteServed}
 use Rattle.request_core.specs.declared.serving.Served.{Served}
 use Rattle.export_model.specs.declared.action.Action.{Action}

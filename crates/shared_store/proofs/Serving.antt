@@ -20,7 +20,8 @@ use Rattle.order_book.specs.Reading.{GivesBase, LiesIn}
 use Rattle.order_book.specs.Shown.{ShowsImage}
 use Rattle.order_book.specs.declared.span.Span.{Span}
 use Rattle.request_core.specs.Outcomes.{IsPassed, IsServedBy, IsServedHere}
-use Rattle.request_core.specs.Reading.{IsKnownBy, IsRead, IsReadOverServed, IsUnread}
+use Rattle.request_core.specs.Reading.{IsRead, IsReadOverServed, IsUnread}
+use Rattle.order_book.specs.Edits.{IsKnownBy}
 use Rattle.request_core.specs.Serving.{IsWriteServed}
 use Rattle.request_core.specs.declared.serving.Served.{Served}
 use Rattle.export_model.specs.Log.{edit_asked}

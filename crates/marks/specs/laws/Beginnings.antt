@@ -1,9 +1,8 @@
 -- Beginnings of one list.
-use Rattle.std.proofs.Common.{◌≡◌, ℕ, ◌≤◌, nat_le, Bool, true, false, if◌then◌else◌, List, [], ◌∷◌, ◌++◌, length, map, take, drop, refl, ap, sym, ◌∙◌, arith, append_assoc, length-append, take-append-drop}
+use Rattle.std.proofs.Common.{◌≡◌, ℕ, ◌≤◌, nat_le, Bool, true, false, if◌then◌else◌, List, [], ◌∷◌, ◌++◌, length, take, drop, refl, ap, sym, ◌∙◌, arith, append_assoc, length-append, take-append-drop}
 use Rattle.std.proofs.lemmas.Bool.Decides.{nat_tests}
-use Rattle.std.proofs.lemmas.List.{map-append}
 use mathlib.Core.List.{IsPrefix}
-use Rattle.image_model.specs.declared.command.Command.{Command}
+use Rattle.image_model.specs.Change.{Change}
 use Rattle.marks.specs.inner.Steps.{longer}
 
 -- each list begins with itself
@@ -36,15 +35,11 @@ prefix_length xs ys p = omega (arith, sym (ap length p.1) ∙ length-append xs p
 pub prefix_take : {A : Type 0} (k : ℕ) (xs : List A) → IsPrefix (take k xs) xs
 prefix_take k xs = (drop k xs, take-append-drop k xs)
 
--- the same of what is made of each element
-pub prefix_map : {A B : Type 0} (f : A → B) (xs ys : List A) → IsPrefix xs ys → IsPrefix (map f xs) (map f ys)
-prefix_map f xs ys p = (map f p.0, sym (map-append f xs p.0) ∙ ap (map f) p.1)
-
 -- of two beginnings of one list both begin the longer
-longer_by : (xs ys zs : List Command) (b : Bool) → nat_le (length xs) (length ys) ≡ b → IsPrefix xs zs → IsPrefix ys zs
+longer_by : (xs ys zs : List Change) (b : Bool) → nat_le (length xs) (length ys) ≡ b → IsPrefix xs zs → IsPrefix ys zs
     → IsPrefix xs (if b then ys else xs) × IsPrefix ys (if b then ys else xs) × IsPrefix (if b then ys else xs) zs
 longer_by xs ys zs true is p q = (prefix_shorter xs ys zs p q (grind (arith, nat_tests, is)), prefix_self ys, q)
 longer_by xs ys zs false is p q = (prefix_self xs, prefix_shorter ys xs zs q p (grind (arith, nat_tests, is)), p)
 
-pub longer_of : (xs ys zs : List Command) → IsPrefix xs zs → IsPrefix ys zs → IsPrefix xs (longer xs ys) × IsPrefix ys (longer xs ys) × IsPrefix (longer xs ys) zs
+pub longer_of : (xs ys zs : List Change) → IsPrefix xs zs → IsPrefix ys zs → IsPrefix xs (longer xs ys) × IsPrefix ys (longer xs ys) × IsPrefix (longer xs ys) zs
 longer_of xs ys zs p q = longer_by xs ys zs (nat_le (length xs) (length ys)) refl p q

@@ -169,7 +169,7 @@ same_takes edit one other old new before after same t = record {
   command = t.command;
   is = t.is ∙ same;
   taken = t.taken;
-  pass = t.pass ∙ ap (λ (change : Change). record before { history = new.history; accepted = old.mark + 1; own = record { count = before.own.count + 1; last = Some (record { number = old.mark + 1; change = change }) } }) same;
+  pass = t.pass ∙ ap (λ (change : Change). record before { history = new.history; accepted = old.mark + 1; own = record { count = before.own.count + 1; last = Some (record { number = old.mark + 1; change = change }) }; client = after.client }) same;
   seen = subst (λ (change : Change). ShowsCommand change old.cache new.cache) same t.seen;
   shown = subst (λ (change : Change). (given : Image) → ShowsImage given old.cache → ShowsImage (apply change given) new.cache) same t.shown;
 }

@@ -3,10 +3,11 @@ ghost use mathlib.Core.List.{IsPrefix};
 ghost use Rattle.device_image.specs.Holds.{Holds, joined};
 ghost use Rattle.image_model.specs.Change.{Change};
 ghost use Rattle.journal_format.specs.Reading.{IsOnlyRead};
+ghost use Rattle.marks.specs.Client.{HasAsked, accepting};
 ghost use Rattle.marks.specs.Known.{known};
 ghost use Rattle.image_model.specs.Edit.{IsEdit, becomes, count_of, edit_of, offset_of};
-ghost use Rattle.image_model.specs.Image.{Image};
-ghost use Rattle.order_book.specs.Edits.{NeedsDevice, TakesEdit, faults_after, image_in, image_with, keeper_after};
+ghost use Rattle.image_model.specs.Image.{Image, apply_all};
+ghost use Rattle.order_book.specs.Edits.{HasAskedEdit, IsKnownBy, NeedsDevice, TakesEdit, faults_after, image_in, image_with, keeper_after};
 ghost use Rattle.order_book.specs.inner.Edits.{IsWholePut, whole_change};
 ghost use Rattle.order_book.specs.Reading.{IsCleanAt};
 ghost use Rattle.order_book.specs.Shown.{ShowsImage};
@@ -21,7 +22,7 @@ use crate::fault::OrderFault;
 use checkpoint::Keeper;
 use disk_model::Disk;
 use image_model::Edit;
-use marks::{Board, BoardName, Pass};
+use marks::{Board, BoardName, Pass, Trust};
 
 // Edits in bytes, each of which an order takes as the command that it becomes over all that was accepted.
 impl<B: BoardName> Order<B> {
@@ -66,15 +67,16 @@ impl<B: BoardName> Order<B> {
     /// accepted; else as `accept_edit`. The bytes of a put of whole blocks are those of its command, and aren't copied.
     ///
     /// Refusals 18 (stopped), 9 (numbers full), 17 (no room), 0 (no memory), in this order.
-    pub fn accept_held(
+    pub fn accept_held<T: Trust>(
         &mut self,
-        board: &Board<B>,
+        board: &Board<B, T>,
         pass: &mut Pass<B>,
         edit: Edit,
     ) -> Result<u64, (OrderFault, Edit)>
         requires edit { IsEdit (length self.old.cache.states) (edit_of edit) }
         requires few { length self.old.cache.states ≤ 16777216 }
         requires held { NeedsDevice self.old (edit_of edit) → ⊥ }
+        requires asked { T.logs → HasAskedEdit T.trusted T.image self.old (edit_of edit) pass.old.client }
         ensures number { IfOk result (λ number. number ≡ self.old.mark + 1) }
         ensures taken { (image : Image) → ShowsImage image self.old.cache
             → OnOk result (TakesEdit (edit_of edit) image self.old self.new pass.old pass.new) }
@@ -85,6 +87,7 @@ impl<B: BoardName> Order<B> {
         ensures unchanged { OnErr result (self.new ≡ self.old) }
         ensures known { IfOk result (λ number. known pass.old < number) }
         ensures knew { OnOk result (IsPrefix pass.old.history self.old.history) }
+        ensures client { IfOk result (λ number. pass.new.client ≡ accepting T.mode number pass.old.client) }
         ensures pass_unchanged { OnErr result (pass.new ≡ pass.old) }
 
         // Each refusal comes exactly where it is due and none before it is.
@@ -105,9 +108,9 @@ impl<B: BoardName> Order<B> {
 
     // Takes an edit that nothing but memory refuses, where of the blocks that are missing its first one has the bytes `head`, and
     // another one the bytes `tail`.
-    fn take_edit(
+    fn take_edit<T: Trust>(
         &mut self,
-        board: &Board<B>,
+        board: &Board<B, T>,
         pass: &mut Pass<B>,
         edit: Edit,
         head: &[u8],
@@ -118,6 +121,8 @@ impl<B: BoardName> Order<B> {
         requires head { length head.now ≡ 4096 }
         requires tail { length tail.now ≡ 4096 }
         requires free { refusal_for self.old (becomes (edit_of edit) (image_in self.old.cache)) ≡ None }
+        requires asked { T.logs → HasAsked T.trusted T.image self.old.history
+            (becomes (edit_of edit) (image_with self.old.cache (offset_of (edit_of edit) / 4096) head.now tail.now)) pass.old.client }
         ensures number { IfOk result (λ number. number ≡ self.old.mark + 1) }
         ensures taken { OnOk result (TakesEdit (edit_of edit) (image_with self.old.cache (offset_of (edit_of edit) / 4096) head.now tail.now)
             self.old self.new pass.old pass.new) }
@@ -126,6 +131,7 @@ impl<B: BoardName> Order<B> {
         ensures unchanged { OnErr result (self.new ≡ self.old) }
         ensures known { IfOk result (λ number. known pass.old < number) }
         ensures knew { OnOk result (IsPrefix pass.old.history self.old.history) }
+        ensures client { IfOk result (λ number. pass.new.client ≡ accepting T.mode number pass.old.client) }
         ensures pass_unchanged { OnErr result (pass.new ≡ pass.old) }
         ensures memory { IfErr result (λ refused. refused.0 ≡ OrderFault.NoMemory) }
     {
@@ -143,9 +149,9 @@ impl<B: BoardName> Order<B> {
     }
 
     // Takes a put of whole blocks, whose bytes become those of the command.
-    fn take_whole_put(
+    fn take_whole_put<T: Trust>(
         &mut self,
-        board: &Board<B>,
+        board: &Board<B, T>,
         pass: &mut Pass<B>,
         edit: Edit,
     ) -> Result<u64, (OrderFault, Edit)>
@@ -153,6 +159,7 @@ impl<B: BoardName> Order<B> {
         requires few { length self.old.cache.states ≤ 16777216 }
         requires whole { IsWholePut (edit_of edit) }
         requires free { refusal_for self.old (whole_change (edit_of edit)) ≡ None }
+        requires asked { T.logs → HasAsked T.trusted T.image self.old.history (whole_change (edit_of edit)) pass.old.client }
         ensures number { IfOk result (λ number. number ≡ self.old.mark + 1) }
         ensures taken { (image : Image) → OnOk result (TakesEdit (edit_of edit) image self.old self.new pass.old pass.new) }
         ensures blocks { length self.new.cache.states ≡ length self.old.cache.states }
@@ -160,6 +167,7 @@ impl<B: BoardName> Order<B> {
         ensures unchanged { OnErr result (self.new ≡ self.old) }
         ensures known { IfOk result (λ number. known pass.old < number) }
         ensures knew { OnOk result (IsPrefix pass.old.history self.old.history) }
+        ensures client { IfOk result (λ number. pass.new.client ≡ accepting T.mode number pass.old.client) }
         ensures pass_unchanged { OnErr result (pass.new ≡ pass.old) }
         ensures memory { IfErr result (λ refused. refused.0 ≡ OrderFault.NoMemory) }
     {
@@ -177,16 +185,18 @@ impl<B: BoardName> Order<B> {
     ///
     /// The refusals, in the order in which they are looked for: 18 (stopped), 9 (numbers full), 17 (no room), 0 (no memory);
     /// then 1 (device fault), or 16 (failed) after an earlier one, where a block is to be read; memory may be refused after that too.
-    pub fn accept_edit<D: Disk>(
+    pub fn accept_edit<D: Disk, T: Trust>(
         &mut self,
         keeper: &mut Keeper<D>,
-        board: &Board<B>,
+        board: &Board<B, T>,
         pass: &mut Pass<B>,
         edit: Edit,
     ) -> Result<u64, (OrderFault, Edit)>
         requires edit { IsEdit (length self.old.cache.states) (edit_of edit) }
         requires few { length self.old.cache.states ≤ 16777216 }
         requires device { offset_of (edit_of edit) + count_of (edit_of edit) ≤ 4096 * keeper.old.geometry.blocks }
+        requires asked { T.logs → HasAskedEdit T.trusted T.image self.old (edit_of edit) pass.old.client }
+        requires known { T.logs → T.trusted → IsKnownBy D.state D.honest keeper.old self.old (apply_all self.old.history T.image) }
         ensures number { IfOk result (λ number. number ≡ self.old.mark + 1) }
 
         // The command is what the edit becomes over an image that memory shows: over each of them where the device isn't needed, and
@@ -204,6 +214,7 @@ impl<B: BoardName> Order<B> {
         ensures unchanged { OnErr result (self.new ≡ self.old) }
         ensures known { IfOk result (λ number. known pass.old < number) }
         ensures knew { OnOk result (IsPrefix pass.old.history self.old.history) }
+        ensures client { IfOk result (λ number. pass.new.client ≡ accepting T.mode number pass.old.client) }
         ensures pass_unchanged { OnErr result (pass.new ≡ pass.old) }
 
         // Each refusal comes exactly where it is due and none before it is.

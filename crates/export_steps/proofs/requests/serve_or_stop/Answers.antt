@@ -11,7 +11,8 @@ use Rattle.export_steps.proofs.requests.serve_or_stop.Goals as goal
 use Rattle.image_model.specs.Image.{Image}
 use Rattle.order_book.specs.Shown.{ShowsImage}
 use Rattle.request_core.specs.Outcomes.{IsPassed, IsServedBy}
-use Rattle.request_core.specs.Reading.{IsKnownBy, IsUnread}
+use Rattle.request_core.specs.Reading.{IsUnread}
+use Rattle.order_book.specs.Edits.{IsKnownBy}
 use Rattle.request_core.specs.Serving.{IsWriteServed}
 use Rattle.request_core.specs.declared.serving.Served.{Served}
 use Rattle.export_model.specs.declared.action.Action.{Action}

@@ -15,11 +15,14 @@ use Rattle.order_book.specs.Order.{OrderState}
 use Rattle.order_book.specs.declared.fault.OrderFault.{OrderFault}
 use Rattle.checkpoint.specs.declared.fault.KeeperFault.TheVariants as refusal
 use Rattle.order_book.specs.laws.Edited.{room_shown}
-use Rattle.request_core.specs.Reading.{IsKnownBy}
+use Rattle.order_book.specs.Edits.{IsKnownBy}
 use Rattle.request_core.specs.Serving.{ready_for, served_after}
 use Rattle.request_core.proofs.Owned.{edit_refused, faults_apart, not_refused, room_over, taken_over, taken_passes}
 use Rattle.request_core.proofs.Writes.{edit_takes, waits_same}
 use Rattle.request_core.specs.laws.Requests.{write_others}
+use Rattle.marks.specs.Client.{accepting}
+use Rattle.order_book.specs.Edits.{HasAskedEdit}
+use Rattle.request_core.proofs.Clients.{asked_edit, client_refused, client_taken}
 use Rattle.request_core.proofs.serving.serve_edit.Goals as goal
 use Rattle.export_model.specs.Log.{edit_asked, waits_for_store}
 
@@ -80,6 +83,17 @@ returns-in-Ok g c = record {
       taken_passes g.B.BoardName.opening request c.args.terms.mode old new image c.args.pass.now c.accept_edit.new.pass others.0 (omega (arith, known_is, c.in-Ok.ensures.number)) c.in-Ok.ensures.knew c.in-Ok.ensures.place taken c.accepted.result
       (c.accepted.ensures ∙ ap (λ (b : Bool). served_after b head.cookie c.in-Ok.number) (waits_same c.args.terms.mode head request head_is)
       ∙ ap (λ (h : RequestHead). served_after waits h.cookie c.in-Ok.number) head_is ∙ ap (λ (n : ℕ). served_after waits request.head.cookie n) c.in-Ok.ensures.number);
+  client =
+      let request = c.args.request in
+      let head = c.split-edit.result.0 in
+      let old = c.args.order.now in
+      let head_is = c.split-edit.ensures.head in
+      let waits = waits_for_store c.args.terms.mode request in
+      let (image, shows, taken) = c.in-Ok.ensures.taken in
+      client_taken g.T.Trust.mode request old.mark c.accept_edit.new.self.mark waits c.accepted.result c.args.pass.now.client c.accept_edit.new.pass.client (write_others request.head.kind c.requires.write).0 (ap (λ (o : OrderState). o.mark) taken.taken)
+      (c.in-Ok.ensures.client ∙ ap (λ (n : ℕ). accepting g.T.Trust.mode n c.args.pass.now.client) c.in-Ok.ensures.number)
+      (c.accepted.ensures ∙ ap (λ (b : Bool). served_after b head.cookie c.in-Ok.number) (waits_same c.args.terms.mode head request head_is)
+      ∙ ap (λ (h : RequestHead). served_after waits h.cookie c.in-Ok.number) head_is ∙ ap (λ (n : ℕ). served_after waits request.head.cookie n) c.in-Ok.ensures.number);
   grown =
       λ more.
       let (image, shows, own) = c.in-Ok.ensures.taken in
@@ -118,6 +132,7 @@ returns-in-Err-NoMemory-default g c = record {
         holds = λ sure base fronts last holds. c.in-Err-NoMemory-default.ensures.holds sure base fronts last holds (λ is. faults_apart.2 (sym fault_is ∙ is));
       });
   pass = refused_passes g.B.BoardName.opening c.args.request c.args.order.now.mark c.refused.result c.args.pass.now _ _ _ _ c.refused.ensures (ap (λ (o : OrderState). o.mark) c.in-Err-NoMemory-default.ensures.unchanged) c.in-Err-NoMemory-default.ensures.pass_unchanged;
+  client = client_refused g.T.Trust.mode c.args.request c.args.order.now.mark _ (ap (λ (o : OrderState). o.mark) c.in-Err-NoMemory-default.ensures.unchanged) c.refused.result c.args.pass.now.client _ _ _ c.refused.ensures (ap (λ (p : PassState). p.client) c.in-Err-NoMemory-default.ensures.pass_unchanged);
   grown = not_grown _ _ (ap (λ (o : OrderState). o.mark) c.in-Err-NoMemory-default.ensures.unchanged);
 }
 
@@ -145,6 +160,7 @@ returns-in-Err-DeviceFault-default g c = record {
         only_read = c.in-Err-DeviceFault-default.ensures.only_read;
       }));
   pass = refused_passes g.B.BoardName.opening c.args.request c.args.order.now.mark c.failed.result c.args.pass.now _ _ _ _ c.failed.ensures.answer (ap (λ (o : OrderState). o.mark) c.failed.ensures.order ∙ ap (λ (o : OrderState). o.mark) c.in-Err-DeviceFault-default.ensures.unchanged) c.in-Err-DeviceFault-default.ensures.pass_unchanged;
+  client = client_refused g.T.Trust.mode c.args.request c.args.order.now.mark _ (ap (λ (o : OrderState). o.mark) c.failed.ensures.order ∙ ap (λ (o : OrderState). o.mark) c.in-Err-DeviceFault-default.ensures.unchanged) c.failed.result c.args.pass.now.client _ _ _ c.failed.ensures.answer (ap (λ (p : PassState). p.client) c.in-Err-DeviceFault-default.ensures.pass_unchanged);
   grown = not_grown _ _ (ap (λ (o : OrderState). o.mark) c.failed.ensures.order ∙ ap (λ (o : OrderState). o.mark) c.in-Err-DeviceFault-default.ensures.unchanged);
 }
 
@@ -172,6 +188,7 @@ returns-in-Err-Failed-default g c = record {
         only_read = c.in-Err-Failed-default.ensures.only_read;
       }));
   pass = refused_passes g.B.BoardName.opening c.args.request c.args.order.now.mark c.failed-in-Err-Failed-default.result c.args.pass.now _ _ _ _ c.failed-in-Err-Failed-default.ensures.answer (ap (λ (o : OrderState). o.mark) c.failed-in-Err-Failed-default.ensures.order ∙ ap (λ (o : OrderState). o.mark) c.in-Err-Failed-default.ensures.unchanged) c.in-Err-Failed-default.ensures.pass_unchanged;
+  client = client_refused g.T.Trust.mode c.args.request c.args.order.now.mark _ (ap (λ (o : OrderState). o.mark) c.failed-in-Err-Failed-default.ensures.order ∙ ap (λ (o : OrderState). o.mark) c.in-Err-Failed-default.ensures.unchanged) c.failed-in-Err-Failed-default.result c.args.pass.now.client _ _ _ c.failed-in-Err-Failed-default.ensures.answer (ap (λ (p : PassState). p.client) c.in-Err-Failed-default.ensures.pass_unchanged);
   grown = not_grown _ _ (ap (λ (o : OrderState). o.mark) c.failed-in-Err-Failed-default.ensures.order ∙ ap (λ (o : OrderState). o.mark) c.in-Err-Failed-default.ensures.unchanged);
 }
 
@@ -187,6 +204,7 @@ returns-in-Err-NoRoom-default g c = record {
       let none = c.in-Err-NoRoom-default.ensures.no_room.0 c.in-Err-NoRoom-default.field-0-0-is in
       absurd (true≢false (sym left.1 ∙ ap (λ (e : ByteEdit). has_room_for c.args.order.now (becomes e (image_in c.args.order.now.cache))) (sym c.split-edit.ensures.edit) ∙ none.2));
   pass = c.in-Err-NoRoom-default.ensures.pass_unchanged;
+  client = ap (λ (p : PassState). p.client) c.in-Err-NoRoom-default.ensures.pass_unchanged;
   grown = not_grown _ _ (ap (λ (o : OrderState). o.mark) c.in-Err-NoRoom-default.ensures.unchanged);
 }
 
@@ -202,6 +220,7 @@ returns-in-Err-NumbersFull-default g c = record {
       let full = c.in-Err-NumbersFull-default.ensures.numbers_full.0 c.in-Err-NumbersFull-default.field-0-0-is in
       absurd (omega (arith, left.0, full.1));
   pass = refused_passes g.B.BoardName.opening c.args.request c.args.order.now.mark c.refused-in-Err-NumbersFull-default.result c.args.pass.now _ _ _ _ c.refused-in-Err-NumbersFull-default.ensures (ap (λ (o : OrderState). o.mark) c.in-Err-NumbersFull-default.ensures.unchanged) c.in-Err-NumbersFull-default.ensures.pass_unchanged;
+  client = client_refused g.T.Trust.mode c.args.request c.args.order.now.mark _ (ap (λ (o : OrderState). o.mark) c.in-Err-NumbersFull-default.ensures.unchanged) c.refused-in-Err-NumbersFull-default.result c.args.pass.now.client _ _ _ c.refused-in-Err-NumbersFull-default.ensures (ap (λ (p : PassState). p.client) c.in-Err-NumbersFull-default.ensures.pass_unchanged);
   grown = not_grown _ _ (ap (λ (o : OrderState). o.mark) c.in-Err-NumbersFull-default.ensures.unchanged);
 }
 
@@ -214,6 +233,7 @@ returns-in-Err-Stopped-default g c = record {
   honest = c.in-Err-Stopped-default.ensures.honest;
   asked = absurd (true≢false (sym (c.in-Err-Stopped-default.ensures.stopped.0 c.in-Err-Stopped-default.field-0-0-is) ∙ c.requires.works));
   pass = refused_passes g.B.BoardName.opening c.args.request c.args.order.now.mark c.failed-in-Err-Stopped-default.result c.args.pass.now _ _ _ _ c.failed-in-Err-Stopped-default.ensures.answer (ap (λ (o : OrderState). o.mark) c.failed-in-Err-Stopped-default.ensures.order ∙ ap (λ (o : OrderState). o.mark) c.in-Err-Stopped-default.ensures.unchanged) c.in-Err-Stopped-default.ensures.pass_unchanged;
+  client = client_refused g.T.Trust.mode c.args.request c.args.order.now.mark _ (ap (λ (o : OrderState). o.mark) c.failed-in-Err-Stopped-default.ensures.order ∙ ap (λ (o : OrderState). o.mark) c.in-Err-Stopped-default.ensures.unchanged) c.failed-in-Err-Stopped-default.result c.args.pass.now.client _ _ _ c.failed-in-Err-Stopped-default.ensures.answer (ap (λ (p : PassState). p.client) c.in-Err-Stopped-default.ensures.pass_unchanged);
   grown = not_grown _ _ (ap (λ (o : OrderState). o.mark) c.failed-in-Err-Stopped-default.ensures.order ∙ ap (λ (o : OrderState). o.mark) c.in-Err-Stopped-default.ensures.unchanged);
 }
 
@@ -235,3 +255,11 @@ accept_edit-requires-clause-edit g c =
     let takes = edit_takes request c.args.terms.geometry c.requires.range c.split-edit.ensures.whole c.split-edit.ensures.few in
     subst (λ (e : ByteEdit). IsEdit (length c.args.order.now.cache.states) e) (sym c.split-edit.ensures.edit)
     (subst (λ (n : ℕ). IsEdit n (edit_asked request)) (sym c.requires.blocks) takes)
+
+pub accept_edit-requires-clause-asked : goal.accept_edit-requires-clause-asked
+accept_edit-requires-clause-asked g c = λ kept.
+    subst (λ (e : ByteEdit). HasAskedEdit g.T.Trust.trusted g.T.Trust.image c.args.order.now e c.args.pass.now.client) (sym c.split-edit.ensures.edit)
+    (asked_edit g.T.Trust.trusted g.T.Trust.image c.args.order.now c.args.request c.args.pass.now.client c.requires.write (c.requires.asked kept))
+
+pub accept_edit-requires-clause-known : goal.accept_edit-requires-clause-known
+accept_edit-requires-clause-known g c = c.requires.known

@@ -19,6 +19,7 @@ returns-in-Ok-Serve g c = record {
   range = tt;
   unchanged = tt;
   pass = search rules;
+  client = search rules;
   grown = search rules;
 }
 
@@ -31,6 +32,7 @@ returns-in-Err g c = record {
   range = tt;
   unchanged = tt;
   pass = search rules;
+  client = search rules;
   grown = search rules;
 }
 
@@ -43,8 +45,12 @@ returns-in-Ok-Serve-2 g c = record {
   range = search rules;
   unchanged = c.serve_passed.ensures.unchanged;
   pass = c.serve_passed.ensures.pass;
+  client = c.serve_passed.ensures.client;
   grown = c.serve_passed.ensures.grown;
 }
 
 pub serve_passed-requires-clause-blocks : goal.serve_passed-requires-clause-blocks
 serve_passed-requires-clause-blocks g c = c.requires.blocks
+
+pub serve_passed-requires-clause-asked : goal.serve_passed-requires-clause-asked
+serve_passed-requires-clause-asked g c = c.requires.asked

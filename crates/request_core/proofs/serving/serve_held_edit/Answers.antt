@@ -21,6 +21,9 @@ use Rattle.request_core.specs.declared.serving.Served.TheVariants.{NoRoom}
 use Rattle.request_core.proofs.Owned.{faults_apart, room_over, taken_over, taken_passes}
 use Rattle.request_core.proofs.Writes.{edit_takes, some_left, waits_same}
 use Rattle.request_core.specs.laws.Requests.{write_others}
+use Rattle.marks.specs.Client.{accepting}
+use Rattle.order_book.specs.Edits.{HasAskedEdit}
+use Rattle.request_core.proofs.Clients.{asked_edit, client_refused, client_taken}
 use Rattle.request_core.proofs.serving.serve_held_edit.Goals as goal
 use Rattle.export_model.specs.Log.{edit_asked, waits_for_store}
 
@@ -69,6 +72,17 @@ returns-in-Ok g c = record {
       taken_passes g.B.BoardName.opening request c.args.terms.mode old new image c.args.pass.now c.accept_held.new.pass others.0 (omega (arith, known_is, c.in-Ok.ensures.number)) c.in-Ok.ensures.knew c.in-Ok.ensures.place taken c.accepted.result
       (c.accepted.ensures ∙ ap (λ (b : Bool). served_after b head.cookie c.in-Ok.number) (waits_same c.args.terms.mode head request head_is)
       ∙ ap (λ (h : RequestHead). served_after waits h.cookie c.in-Ok.number) head_is ∙ ap (λ (n : ℕ). served_after waits request.head.cookie n) c.in-Ok.ensures.number);
+  client =
+      let request = c.args.request in
+      let head = c.split-edit.result.0 in
+      let old = c.args.order.now in
+      let head_is = c.split-edit.ensures.head in
+      let waits = waits_for_store c.args.terms.mode request in
+      let taken = c.in-Ok.ensures.taken (image_in old.cache) (shows_in old.cache) in
+      client_taken g.T.Trust.mode request old.mark c.accept_held.new.self.mark waits c.accepted.result c.args.pass.now.client c.accept_held.new.pass.client (write_others request.head.kind c.requires.write).0 (ap (λ (o : OrderState). o.mark) taken.taken)
+      (c.in-Ok.ensures.client ∙ ap (λ (n : ℕ). accepting g.T.Trust.mode n c.args.pass.now.client) c.in-Ok.ensures.number)
+      (c.accepted.ensures ∙ ap (λ (b : Bool). served_after b head.cookie c.in-Ok.number) (waits_same c.args.terms.mode head request head_is)
+      ∙ ap (λ (h : RequestHead). served_after waits h.cookie c.in-Ok.number) head_is ∙ ap (λ (n : ℕ). served_after waits request.head.cookie n) c.in-Ok.ensures.number);
   grown =
       λ more.
       let old = c.args.order.now in
@@ -99,6 +113,7 @@ returns-in-Err-NoRoom-default g c = record {
   handed_back = tt;
   unchanged = tt;
   pass = c.in-Err-NoRoom-default.ensures.pass_unchanged;
+  client = ap (λ (p : PassState). p.client) c.in-Err-NoRoom-default.ensures.pass_unchanged;
   grown = not_grown _ _ (ap (λ (o : OrderState). o.mark) c.in-Err-NoRoom-default.ensures.unchanged);
 }
 
@@ -127,6 +142,7 @@ returns-in-Err-NoMemory-default g c = record {
   handed_back = tt;
   unchanged = tt;
   pass = refused_passes g.B.BoardName.opening c.args.request c.args.order.now.mark c.refused.result c.args.pass.now _ _ _ _ c.refused.ensures (ap (λ (o : OrderState). o.mark) c.in-Err-NoMemory-default.ensures.unchanged) c.in-Err-NoMemory-default.ensures.pass_unchanged;
+  client = client_refused g.T.Trust.mode c.args.request c.args.order.now.mark _ (ap (λ (o : OrderState). o.mark) c.in-Err-NoMemory-default.ensures.unchanged) c.refused.result c.args.pass.now.client _ _ _ c.refused.ensures (ap (λ (p : PassState). p.client) c.in-Err-NoMemory-default.ensures.pass_unchanged);
   grown = not_grown _ _ (ap (λ (o : OrderState). o.mark) c.in-Err-NoMemory-default.ensures.unchanged);
 }
 
@@ -138,6 +154,7 @@ returns-then-needs_device g c = record {
   handed_back = c.joined.ensures c.args.request (sym c.split-edit.ensures.head) (c.split-edit.ensures.whole ∙ ap handed_len (sym c.split-edit.ensures.head)) c.split-edit.ensures.edit;
   unchanged = (refl, refl);
   pass = tt;
+  client = tt;
   grown = not_grown _ _ refl;
 }
 
@@ -154,6 +171,7 @@ returns-in-Err-NumbersFull-default g c = record {
   handed_back = tt;
   unchanged = tt;
   pass = refused_passes g.B.BoardName.opening c.args.request c.args.order.now.mark c.refused-in-Err-NumbersFull-default.result c.args.pass.now _ _ _ _ c.refused-in-Err-NumbersFull-default.ensures (ap (λ (o : OrderState). o.mark) c.in-Err-NumbersFull-default.ensures.unchanged) c.in-Err-NumbersFull-default.ensures.pass_unchanged;
+  client = client_refused g.T.Trust.mode c.args.request c.args.order.now.mark _ (ap (λ (o : OrderState). o.mark) c.in-Err-NumbersFull-default.ensures.unchanged) c.refused-in-Err-NumbersFull-default.result c.args.pass.now.client _ _ _ c.refused-in-Err-NumbersFull-default.ensures (ap (λ (p : PassState). p.client) c.in-Err-NumbersFull-default.ensures.pass_unchanged);
   grown = not_grown _ _ (ap (λ (o : OrderState). o.mark) c.in-Err-NumbersFull-default.ensures.unchanged);
 }
 
@@ -165,6 +183,7 @@ returns-in-Err g c = record {
   handed_back = tt;
   unchanged = tt;
   pass = search rules;
+  client = search rules;
   grown = search rules;
 }
 
@@ -199,3 +218,8 @@ needs_device-requires-clause-edit g c =
     let takes = edit_takes request c.args.terms.geometry c.requires.range c.split-edit.ensures.whole c.split-edit.ensures.few in
     subst (λ (e : ByteEdit). IsEdit (length c.args.order.now.cache.states) e) (sym c.split-edit.ensures.edit)
     (subst (λ (n : ℕ). IsEdit n (edit_asked request)) (sym c.requires.blocks) takes)
+
+pub accept_held-requires-clause-asked : goal.accept_held-requires-clause-asked
+accept_held-requires-clause-asked g c = λ kept.
+    subst (λ (e : ByteEdit). HasAskedEdit g.T.Trust.trusted g.T.Trust.image c.args.order.now e c.args.pass.now.client) (sym c.split-edit.ensures.edit)
+    (asked_edit g.T.Trust.trusted g.T.Trust.image c.args.order.now c.args.request c.args.pass.now.client c.requires.write (c.requires.asked kept))

@@ -1,4 +1,4 @@
-use Rattle.std.proofs.Common.{◌≡◌, ◌≢◌, ◌*◌, ◌+◌, ◌≤◌, ◌∙◌, ℕ, ap, arith, inl, inr, refl, subst, sym, rules}
+use Rattle.std.proofs.Common.{◌≡◌, ◌≢◌, ◌*◌, ◌+◌, ◌≤◌, ◌∙◌, ℕ, ap, arith, eq-eqb, inl, inr, refl, subst, sym, true, rules}
 use Rattle.std.proofs.lemmas.Bool.{false≢true}
 use Rattle.export_model.specs.Verdict.{IsServedRange}
 use Rattle.image_model.specs.declared.geometry.Geometry.{Geometry}
@@ -6,6 +6,11 @@ use Rattle.nbd_wire.specs.declared.head.RequestHead.{RequestHead}
 use Rattle.request_core.specs.Reading.{IsHeldReadServed, IsStatusServed}
 use Rattle.request_core.proofs.Needing.{lacks_blocks, lacks_given, neither_3, neither_7, not_read}
 use Rattle.request_core.proofs.Passes.{held_passes, not_grown, status_passes}
+use Rattle.export_model.specs.Log.{flush_waits, is_flush}
+use Rattle.marks.specs.Known.{PassState}
+use Rattle.nbd_wire.specs.Request.{Message}
+use Rattle.order_book.specs.Order.{OrderState}
+use Rattle.request_core.proofs.Clients.{client_flushed, client_held, client_status}
 use Rattle.request_core.proofs.serving.serve_passed.Goals as goal
 
 -- the range of a head whose type isn't that of a FLUSH
@@ -21,6 +26,7 @@ returns-in-7 g c = record {
   handed_back = tt;
   unchanged = tt;
   pass = status_passes g.B.BoardName.opening c.args.request c.args.order.now.mark c.serve_status.result c.args.pass.now c.head-head.result c.args.order.now c.serve_status.ensures;
+  client = client_status g.T.Trust.mode c.args.request c.args.order.now.mark c.args.order.now.mark refl c.serve_status.result c.args.pass.now.client c.head-head.result c.args.order.now c.serve_status.ensures;
   grown = not_grown _ _ refl;
 }
 
@@ -39,6 +45,7 @@ returns-then-holds g c = record {
   handed_back = tt;
   unchanged = tt;
   pass = held_passes g.B.BoardName.opening c.args.request c.args.order.now.mark c.serve_held_read.result c.args.pass.now c.head-head.result c.args.order.now c.serve_held_read.ensures;
+  client = client_held g.T.Trust.mode c.args.request c.args.order.now.mark c.args.order.now.mark refl c.serve_held_read.result c.args.pass.now.client c.head-head.result c.args.order.now c.serve_held_read.ensures;
   grown = not_grown _ _ refl;
 }
 
@@ -50,6 +57,7 @@ returns-else-holds g c = record {
   handed_back = refl;
   unchanged = (refl, refl);
   pass = tt;
+  client = tt;
   grown = not_grown _ _ refl;
 }
 
@@ -139,3 +147,22 @@ returns-in_default-clause-pass g c = c.serve_held_edit.ensures.pass
 
 pub returns-in_default-clause-grown : goal.returns-in_default-clause-grown
 returns-in_default-clause-grown g c = c.serve_held_edit.ensures.grown
+
+-- the request is a FLUSH
+is_flush_3 : (head : RequestHead) (request : Message) → head ≡ request.head → head.kind ≡ 3 → is_flush request ≡ true
+is_flush_3 head request is three = eq-eqb request.head.kind 3 (sym (ap (λ (h : RequestHead). h.kind) is) ∙ three)
+
+pub await_mark-requires : goal.await_mark-requires
+await_mark-requires g c = record { asked = λ kept speaks. record { request = c.args.request; asks = (c.requires.asked kept).asks; flush = is_flush_3 c.head-head.result c.args.request c.head-head.ensures c.in-3.is } }
+
+pub returns-in-3-clause-client : goal.returns-in-3-clause-client
+returns-in-3-clause-client g c =
+    let order = ap (λ (o : OrderState). o.mark) c.await_mark.ensures.same in
+    client_flushed g.T.Trust.mode c.args.request c.args.order.now.mark c.await_mark.new.self.mark c.await_mark.result (flush_waits c.args.terms.mode) c.head-head.result.cookie c.flushed.result c.args.pass.now.client c.await_mark.new.pass.client
+    (is_flush_3 c.head-head.result c.args.request c.head-head.ensures c.in-3.is) order (c.await_mark.ensures.mark ∙ sym order) (ap (λ (p : PassState). p.client) c.await_mark.ensures.pass) c.flushed.ensures
+
+pub serve_held_edit-requires-clause-asked : goal.serve_held_edit-requires-clause-asked
+serve_held_edit-requires-clause-asked g c = c.requires.asked
+
+pub returns-in_default-clause-client : goal.returns-in_default-clause-client
+returns-in_default-clause-client g c = c.serve_held_edit.ensures.client

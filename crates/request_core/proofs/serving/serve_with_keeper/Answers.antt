@@ -3,13 +3,15 @@ use Rattle.journal_format.specs.laws.Chained.{none_read}
 use Rattle.marks.specs.Known.{PassState}
 use Rattle.nbd_wire.specs.Request.{Message}
 use Rattle.nbd_wire.specs.declared.head.RequestHead.{RequestHead}
-use Rattle.order_book.specs.Edits.{NeedsDevice as NeedsOld}
+use Rattle.image_model.specs.Image.{apply_all}
+use Rattle.order_book.specs.Edits.{IsKnownBy, NeedsDevice as NeedsOld}
 use Rattle.order_book.specs.Order.{OrderState}
 use Rattle.request_core.specs.Reading.{IsReadServed}
-use Rattle.request_core.specs.Serving.{IsPassServed}
+use Rattle.request_core.specs.Serving.{HasSent, IsClientServed, IsPassServed}
 use Rattle.request_core.specs.Outcomes.{IsWriteAsked}
 use Rattle.request_core.proofs.Here.{read_leaves, read_mark, read_passes, served_here}
 use Rattle.request_core.proofs.Needing.{is_edit, neither_3, not_read}
+use Rattle.request_core.proofs.Clients.{client_read}
 use Rattle.request_core.proofs.serving.serve_with_keeper.Goals as goal
 use Rattle.export_model.specs.Log.{edit_asked, is_write}
 use Rattle.export_model.specs.Verdict.{IsServedRange, verdict}
@@ -35,6 +37,7 @@ returns-in-Ok g c = record {
         refl,
       );
   pass = c.in-Ok.ensures.pass;
+  client = c.in-Ok.ensures.client;
   grown = c.in-Ok.ensures.grown;
 }
 
@@ -113,6 +116,10 @@ returns-in-Err-2 g c = record {
       subst (λ (r : Message). IsPassServed g.B.BoardName.opening r c.args.order.now.mark c.serve_edit.new.order.mark c.serve_edit.result c.args.pass.now c.serve_edit.new.pass) c.in-Err.ensures.handed_back
       (subst (λ (o : OrderState). IsPassServed g.B.BoardName.opening c.in-Err.field-0.0 o.mark c.serve_edit.new.order.mark c.serve_edit.result c.args.pass.now c.serve_edit.new.pass) c.in-Err-2.ensures.unchanged.0
       (subst (λ (p : PassState). IsPassServed g.B.BoardName.opening c.in-Err.field-0.0 c.serve_held.new.order.mark c.serve_edit.new.order.mark c.serve_edit.result p c.serve_edit.new.pass) c.in-Err-2.ensures.unchanged.1 c.serve_edit.ensures.pass));
+  client =
+      subst (λ (r : Message). IsClientServed g.T.Trust.mode r c.args.order.now.mark c.serve_edit.new.order.mark c.serve_edit.result c.args.pass.now.client c.serve_edit.new.pass.client) c.in-Err.ensures.handed_back
+      (subst (λ (o : OrderState). IsClientServed g.T.Trust.mode c.in-Err.field-0.0 o.mark c.serve_edit.new.order.mark c.serve_edit.result c.args.pass.now.client c.serve_edit.new.pass.client) c.in-Err-2.ensures.unchanged.0
+      (subst (λ (p : PassState). IsClientServed g.T.Trust.mode c.in-Err.field-0.0 c.serve_held.new.order.mark c.serve_edit.new.order.mark c.serve_edit.result p.client c.serve_edit.new.pass.client) c.in-Err-2.ensures.unchanged.1 c.serve_edit.ensures.client));
   grown = λ more. c.serve_edit.ensures.grown (subst (λ (o : OrderState). o.mark < c.serve_edit.new.order.mark) (sym c.in-Err-2.ensures.unchanged.0) more);
 }
 
@@ -179,3 +186,23 @@ returns-in-Err-clause-blocks g c = search rules
 
 pub returns-in-Err-clause-geometry : goal.returns-in-Err-clause-geometry
 returns-in-Err-clause-geometry g c = search rules
+
+pub returns-in-Err-clause-client : goal.returns-in-Err-clause-client
+returns-in-Err-clause-client g c =
+    let same = c.in-Err.ensures.unchanged in
+    subst (λ (pass : PassState). IsClientServed g.T.Trust.mode c.args.request c.args.order.now.mark c.serve_read.new.order.mark c.serve_read.result c.args.pass.now.client pass.client) (sym same.1)
+    (subst (λ (order : OrderState). IsClientServed g.T.Trust.mode c.args.request order.mark c.serve_read.new.order.mark c.serve_read.result c.args.pass.now.client c.args.pass.now.client) same.0
+    (client_read g.D.Disk.state g.D.Disk.faults g.D.Disk.honest g.T.Trust.mode c.args.request _ c.serve_held.new.order c.serve_read.new.order c.args.keeper.now c.serve_read.new.keeper c.serve_read.result c.args.pass.now.client c.serve_read.ensures.read))
+
+pub serve_held-requires-clause-asked : goal.serve_held-requires-clause-asked
+serve_held-requires-clause-asked g c = c.requires.asked
+
+pub serve_edit-requires-clause-asked : goal.serve_edit-requires-clause-asked
+serve_edit-requires-clause-asked g c = λ kept.
+    subst (λ (r : Message). HasSent g.T.Trust.trusted g.T.Trust.image c.serve_held.new.order r c.serve_held.new.pass.client) (sym c.in-Err.ensures.handed_back)
+    (subst (λ (o : OrderState). HasSent g.T.Trust.trusted g.T.Trust.image o c.args.request c.serve_held.new.pass.client) (sym c.in-Err-2.ensures.unchanged.0)
+    (subst (λ (p : PassState). HasSent g.T.Trust.trusted g.T.Trust.image c.args.order.now c.args.request p.client) (sym c.in-Err-2.ensures.unchanged.1) (c.requires.asked kept)))
+
+pub serve_edit-requires-clause-known : goal.serve_edit-requires-clause-known
+serve_edit-requires-clause-known g c = λ kept trusted.
+    subst (λ (o : OrderState). IsKnownBy g.D.Disk.state g.D.Disk.honest c.args.keeper.now o (apply_all o.history g.T.Trust.image)) (sym c.in-Err-2.ensures.unchanged.0) (c.requires.known kept trusted)

@@ -2,4 +2,4 @@ use Rattle.marks.proofs.Fitting.{opens}
 use Rattle.marks.proofs.blank.BlankBoard.new.Goals as goal
 
 pub of_words-requires : goal.of_words-requires
-of_words-requires c = opens _
+of_words-requires g c = opens _ _ _ _ _

@@ -6,6 +6,7 @@ use Rattle.checkpoint.specs.declared.fault.KeeperFault.{KeeperFault}
 use Rattle.device_image.specs.Holds.{Holds, joined}
 use Rattle.device_image.specs.Keeper.{KeeperState}
 use Rattle.image_model.specs.Edit.{IsEdit, becomes, edit_of, offset_of}
+use Rattle.image_model.specs.Image.{apply_all}
 use Rattle.order_book.specs.Edits.{LacksOld, NeedsDevice, image_in, image_with}
 use Rattle.journal_format.specs.laws.Chained.{none_read}
 use Rattle.order_book.specs.declared.fault.OrderFault.TheVariants.{DeviceFault, Failed, NoMemory}
@@ -16,7 +17,7 @@ use Rattle.order_book.specs.laws.Edited.{IsSameFor, same_becomes, same_takes, sh
 use Rattle.order_book.proofs.Answered.{IsHeld, IsUnread, always, each_err, faults_read, faults_same, keeper_read, keeper_same, memory_alone, never, never_then, not_full, not_no_room, not_stopped, unread_failed, unread_faults, unread_full, unread_keeper, unread_room, unread_stopped}
 use Rattle.order_book.proofs.Editing.{same_read}
 use Rattle.order_book.proofs.Handed.{ok_is_none}
-use Rattle.order_book.proofs.Taking.{map_ok}
+use Rattle.order_book.proofs.Taking.{has_asked, map_ok}
 use Rattle.order_book.proofs.order.Order.accept_edit.Goals as goal
 
 pub returns-then-not-needs_device : goal.returns-then-not-needs_device
@@ -34,6 +35,7 @@ returns-then-not-needs_device g c = record {
   unchanged = c.accept_held.ensures.unchanged;
   known = c.accept_held.ensures.known;
   knew = c.accept_held.ensures.knew;
+  client = c.accept_held.ensures.client;
   pass_unchanged = c.accept_held.ensures.pass_unchanged;
   stopped = c.accept_held.ensures.stopped;
   numbers_full = c.accept_held.ensures.numbers_full;
@@ -81,6 +83,7 @@ returns-in-Ok g c =
       unchanged = c.take_edit.ensures.unchanged;
       known = c.take_edit.ensures.known;
       knew = c.take_edit.ensures.knew;
+      client = c.take_edit.ensures.client;
       pass_unchanged = c.take_edit.ensures.pass_unchanged;
       stopped = not_stopped c.take_edit.result c.args.self.now change needs.accepted memory;
       numbers_full = not_full c.take_edit.result c.args.self.now change needs.accepted memory;
@@ -118,6 +121,7 @@ returns-in-Err g c =
       unchanged = refl;
       known = tt;
       knew = tt;
+      client = tt;
       pass_unchanged = refl;
       stopped = unread_stopped c.in-Err.fault c.of_keeper.result unread c.args.self.now change needs.accepted;
       numbers_full = unread_full c.in-Err.fault c.of_keeper.result unread c.args.self.now change needs.accepted;
@@ -181,3 +185,20 @@ take_edit-requires-clause-tail g c = c.in-Ok.ensures.tail
 
 pub of_keeper-requires : goal.of_keeper-requires
 of_keeper-requires g c = c.in-Err.ensures.only
+
+pub accept_held-requires-clause-asked : goal.accept_held-requires-clause-asked
+accept_held-requires-clause-asked g c = c.requires.asked
+
+pub take_edit-requires-clause-asked : goal.take_edit-requires-clause-asked
+take_edit-requires-clause-asked g c = λ kept.
+    let edit = edit_of c.args.edit in
+    let first = offset_of edit / 4096 in
+    let head = c.read_old.new.head in
+    let tail = c.read_old.new.tail in
+    has_asked g.T.Trust.trusted g.T.Trust.image c.args.self.now edit c.args.pass.now.client _ (c.requires.asked kept)
+    (λ trusted.
+    let known = c.requires.known kept trusted in
+    let image = apply_all c.args.self.now.history g.T.Trust.image in
+    let same = subst (λ (o : OrderState). ShowsImage image o.cache → IsCleanAt known.base (joined known.fronts) image o.dirty → IsSameFor edit (image_with o.cache first head tail) image) c.self.view_is
+    (λ given at. same_read edit known.base image (joined known.fronts) c.self.inside.cache first head tail given at (c.in-Ok.ensures.bytes known.sure known.base known.fronts known.last known.holds)) known.shows known.clean in
+    same_becomes edit _ image c.requires.edit.some same)

@@ -4,7 +4,7 @@ use Rattle.order_book.specs.Edits.{LacksOld, image_in}
 use Rattle.order_book.specs.laws.Edited.{same_becomes, same_takes}
 use Rattle.order_book.proofs.Answered.{due_of, not_device, not_full, not_no_room, not_stopped}
 use Rattle.order_book.proofs.Editing.{same_held}
-use Rattle.order_book.proofs.Taking.{map_ok}
+use Rattle.order_book.proofs.Taking.{has_asked, map_ok}
 use Rattle.order_book.proofs.order.Order.accept_held.Goals as goal
 
 pub returns : goal.returns
@@ -28,6 +28,7 @@ returns g c =
       unchanged = c.take_edit.ensures.unchanged;
       known = c.take_edit.ensures.known;
       knew = c.take_edit.ensures.knew;
+      client = c.take_edit.ensures.client;
       pass_unchanged = c.take_edit.ensures.pass_unchanged;
       stopped = not_stopped c.take_edit.result c.args.self.now change free memory;
       numbers_full = not_full c.take_edit.result c.args.self.now change free memory;
@@ -47,9 +48,19 @@ returns-in-Some g c =
       unchanged = refl;
       known = tt;
       knew = tt;
+      client = tt;
       pass_unchanged = refl;
       stopped = due.stopped;
       numbers_full = due.full;
       no_room = due.no_room;
       no_device = due.no_device;
     }
+
+pub take_edit-requires-clause-asked : goal.take_edit-requires-clause-asked
+take_edit-requires-clause-asked g c = λ kept.
+    let edit = edit_of c.args.edit in
+    let cache = c.args.self.now.cache in
+    let free = sym c.edit_refusal.ensures ∙ c.in_default.is in
+    let none : LacksOld edit cache → ⊥ = λ lacks. c.requires.held (record { accepted = free; lacks = lacks }) in
+    has_asked g.T.Trust.trusted g.T.Trust.image c.args.self.now edit c.args.pass.now.client _ (c.requires.asked kept)
+    (λ trusted. same_becomes edit _ _ c.requires.edit.some (same_held edit _ cache (offset_of edit / 4096) _ _ ((c.requires.asked kept).shows trusted) none))

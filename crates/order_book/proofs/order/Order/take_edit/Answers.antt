@@ -1,5 +1,7 @@
 use Rattle.std.proofs.Common.{◌≡◌, ◌∙◌, ◌/◌, ap, length, refl, subst, sym}
-use Rattle.image_model.specs.Change.{IsChange, change_of}
+use Rattle.image_model.specs.Change.{Change, IsChange, change_of}
+use Rattle.marks.specs.Client.{HasAsked}
+use Rattle.marks.specs.Known.{PassState}
 use Rattle.image_model.specs.Edit.{becomes, edit_of, offset_of}
 use Rattle.order_book.specs.Edits.{image_in, image_with}
 use Rattle.order_book.specs.Order.{OrderState, refusal_for}
@@ -36,6 +38,7 @@ returns-then-is_whole_put g c = record {
   unchanged = c.take_whole_put.ensures.unchanged;
   known = c.take_whole_put.ensures.known;
   knew = c.take_whole_put.ensures.knew;
+  client = c.take_whole_put.ensures.client;
   pass_unchanged = c.take_whole_put.ensures.pass_unchanged;
   memory = c.take_whole_put.ensures.memory;
 }
@@ -61,6 +64,22 @@ returns-in-Err g c = record {
   unchanged = c.in-Err.ensures.unchanged;
   known = tt;
   knew = tt;
+  client = tt;
   pass_unchanged = c.in-Err.ensures.pass_unchanged;
   memory = c.in-Err.ensures.memory;
 }
+
+pub returns-in-Ok-take-clause-client : goal.returns-in-Ok-take-clause-client
+returns-in-Ok-take-clause-client g c = ap (λ (p : PassState). p.client) c.in-Ok-take.ensures.pass
+
+pub take_whole_put-requires-clause-asked : goal.take_whole_put-requires-clause-asked
+take_whole_put-requires-clause-asked g c = λ kept.
+    let edit = edit_of c.args.edit in
+    subst (λ (change : Change). HasAsked g.T.Trust.trusted g.T.Trust.image c.args.self.now.history change c.args.pass.now.client)
+    (whole_becomes edit (image_with c.args.self.now.cache (offset_of edit / 4096) c.args.head.now c.args.tail.now) (c.is_whole_put.ensures.0 c.if-is_whole_put.true)) (c.requires.asked kept)
+
+pub take-requires-clause-asked : goal.take-requires-clause-asked
+take-requires-clause-asked g c = λ kept.
+    let edit = edit_of c.args.edit in
+    let over = subst (λ (o : OrderState). change_of c.in-Ok.command ≡ becomes edit (image_with o.cache (offset_of edit / 4096) c.args.head.now c.args.tail.now)) c.self.view_is c.in-Ok.ensures in
+    subst (λ (change : Change). HasAsked g.T.Trust.trusted g.T.Trust.image c.args.self.now.history change c.args.pass.now.client) (sym over) (c.requires.asked kept)

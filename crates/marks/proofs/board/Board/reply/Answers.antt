@@ -1,0 +1,6 @@
+use Rattle.std.proofs.Common.{sym, ◌∙◌, arith}
+use Rattle.marks.proofs.Moves.{replies}
+use Rattle.marks.proofs.board.Board.reply.Goals as goal
+
+pub compare_exchange_with-requires : goal.compare_exchange_with-requires
+compare_exchange_with-requires g c = (c.requires.seat.table ∙ sym c.args.self.now.named, omega (arith, c.args.self.now.three_words), replies _ _ _ _ _ _ _ 0 _ c.requires.speaks c.requires.may)

@@ -1,7 +1,0 @@
-use Rattle.std.proofs.Common.{sym, ◌∙◌, arith}
-use Rattle.marks.proofs.Moves.{takes_history}
-use Rattle.marks.proofs.board.Board.take_history.Goals as goal
-
-pub join_seat-requires : goal.join_seat-requires
-join_seat-requires g c = let same = sym c.args.self.now.named in
-    (c.requires.seats.0.table ∙ same, c.requires.seats.1.table ∙ same, c.requires.seats.1.no_slots, omega (arith, c.args.self.now.two_words), takes_history _ _ _ _ c.requires.no_order)

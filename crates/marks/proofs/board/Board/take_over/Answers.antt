@@ -1,7 +1,0 @@
-use Rattle.std.proofs.Common.{sym, ◌∙◌, arith}
-use Rattle.marks.proofs.Moves.{takes_over}
-use Rattle.marks.proofs.board.Board.take_over.Goals as goal
-
-pub join_seat-requires : goal.join_seat-requires
-join_seat-requires g c = let same = sym c.args.self.now.named in
-    (c.requires.seats.0.table ∙ same, c.requires.seats.1.table ∙ same, c.requires.seats.1.no_slots, omega (arith, c.args.self.now.two_words), takes_over _ _ _ _ c.requires.no_order)
