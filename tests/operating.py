@@ -582,9 +582,14 @@ def failing(folder):
         client.sendall(request(WRITE, 5, 0, BLOCK) + bytes(BLOCK))
         check("staying: a write", reply(5, EIO), take(client, 16))
         check("staying: it lives", None, server.process.poll())
+        # (a thread of its own writes the line)
+        late = threading.Timer(20, server.process.kill)
+        late.start()
+        told = server.process.stderr.readline().splitlines()
+        late.cancel()
         server.process.kill()
         server.process.wait(timeout=60)
-        told = server.process.stderr.read().splitlines()
+        told += server.process.stderr.read().splitlines()
         check("staying: it told once", [True], [line.endswith(": File too large (os error 27)") for line in told])
 
 
