@@ -192,7 +192,7 @@ const PATH: ArgumentRow<'static> = ArgumentRow {
     name: "path",
     form: Form::Word("PATH"),
     tie: Tie::None,
-    help: "The file that holds the device",
+    help: "The file or block device that holds the image",
 };
 
 const FRAMES: ArgumentRow<'static> = ArgumentRow {
@@ -203,14 +203,14 @@ const FRAMES: ArgumentRow<'static> = ArgumentRow {
         ValueParser::Unsigned(LEAST_FRAMES, MOST_FRAMES),
     ),
     tie: Tie::None,
-    help: "Blocks that may be written and not yet copied to the image: 512 to 65536",
+    help: "Blocks that may be written and not yet copied into the image: 512 to 65536",
 };
 
 const CACHE: ArgumentRow<'static> = ArgumentRow {
     name: "cache",
     form: Form::ValueOr("MODE", "writeback", CACHE_MODES),
     tie: Tie::None,
-    help: "`ordered`: a FLUSH makes nothing durable; `writeback`: it does, and a write is answered once it has its place in the order; `writethrough`: once it is stored",
+    help: "`writeback`: a write is answered at once, a FLUSH once all before it is stored; `writethrough`: a write is answered once it is stored; `ordered`: a FLUSH does not make anything durable, and is answered at once",
 };
 
 // The modes of `--cache`.
@@ -224,28 +224,28 @@ const VERBOSE: ArgumentRow<'static> = ArgumentRow {
     name: "verbose",
     form: Form::ShortFlag('v'),
     tie: Tie::None,
-    help: "Tells on standard error what happens, and why something can't be done",
+    help: "Prints on standard error what happens, and why a command fails",
 };
 
 const WAIT_LOCK: ArgumentRow<'static> = ArgumentRow {
     name: "wait-lock",
     form: Form::Flag,
     tie: Tie::None,
-    help: "While another process has locked the file or the device, waits and tries again every half second",
+    help: "If another process has locked the image, waits and tries again every half second",
 };
 
 const JSON: ArgumentRow<'static> = ArgumentRow {
     name: "json",
     form: Form::Flag,
     tie: Tie::None,
-    help: "Prints one line of JSON in place of the lines for people",
+    help: "Prints one line of JSON instead of text",
 };
 
 // There are two ways to say how large an image is.
 pub static FORMAT: SubcommandRow<'static> = SubcommandRow {
     name: "format",
-    about: "Makes or replaces the file at its full size: an image of holes with an empty journal",
-    after_help: "Example: nbdj format d.img --size 10G\n\nWith --size a file that isn't empty, or a block device with known data, is refused without --force. A kill or a power cut before the end leaves what the file held, or a file that doesn't open.\n\nExit status: 0 done; 1 a fault of file, device or memory, data that --force would replace, or an area below 4M for layout 2; 2 a refused command line; 4 a file or a device in use.",
+    about: "Makes an image of full size: every block is a hole, and the journal is empty",
+    after_help: "Example: nbdj format d.img --size 10G\n\nWith --size, a file that isn't empty or a block device with known data is refused unless --force is given. A kill or a power cut before the end leaves what the file held, or a file that doesn't open.\n\nExit status: 0 done; 1 a fault of file, device or memory, data that --force would replace, or an area below 4M for layout 2; 2 a refused command line; 4 a file or a device in use.",
     usage: Some(
         "nbdj format [OPTIONS] --size <SIZE> <PATH>\n       nbdj format [OPTIONS] --blocks <N> --area <BYTES> <PATH>",
     ),
@@ -255,37 +255,37 @@ pub static FORMAT: SubcommandRow<'static> = SubcommandRow {
             name: "size",
             form: Form::Text("SIZE"),
             tie: Tie::OneOf("blocks"),
-            help: "Bytes of the image, in whole blocks of 4096: 4K to 64G, as 65536, 64K, 512M or 10G, in powers of 1024",
+            help: "Size of the image, in whole blocks of 4096 bytes: 4K to 64G, as 65536, 64K, 512M or 10G, in powers of 1024",
         },
         ArgumentRow {
             name: "blocks",
             form: Form::Value("N", ValueParser::Unsigned(1, 16_777_216)),
             tie: Tie::Requires("area"),
-            help: "Blocks of the image, of 4096 bytes each: 1 to 16777216",
+            help: "Size of the image in blocks of 4096 bytes: 1 to 16777216",
         },
         ArgumentRow {
             name: "area",
             form: Form::Text("BYTES"),
             tie: Tie::None,
-            help: "Bytes of a journal area of layout 1, and of two of layout 2, a multiple of 8192: 2M to 1G; with --size by default 64M",
+            help: "Size of one journal area in layout 1, of two in layout 2: a multiple of 8192, 2M to 1G; 64M if only --size is given",
         },
         ArgumentRow {
             name: "layout",
             form: Form::Value("L", ValueParser::Unsigned(1, 2)),
             tie: Tie::None,
-            help: "The layout: 1 has two journal areas, 2 has four of half the bytes, where --area is 4M or more; with --size by default 2, where that can be, and with --blocks 1",
+            help: "1 for two journal areas, 2 for four of half the size, which needs an --area of 4M or more; without it --size makes layout 2 if it can, and --blocks layout 1",
         },
         ArgumentRow {
             name: "preallocate",
             form: Form::Flag,
             tie: Tie::None,
-            help: "Writes zeroes over the whole file, so that no block of it is missing later on a full disk",
+            help: "Allocates every block by writing zeroes, so that a full disk can't stop the server later",
         },
         ArgumentRow {
             name: "force",
             form: Form::Flag,
             tie: Tie::None,
-            help: "Replaces a file that isn't empty, or data on a block device; --blocks always does",
+            help: "Replaces a file that isn't empty, or data on a block device; --blocks always does so",
         },
         VERBOSE,
     ],
@@ -295,7 +295,7 @@ pub static FORMAT: SubcommandRow<'static> = SubcommandRow {
 pub static SERVE: SubcommandRow<'static> = SubcommandRow {
     name: "serve",
     about: "Serves the image to clients of the Network Block Device protocol",
-    after_help: "Example: nbdj serve d.img --listen 127.0.0.1:10809\n\n--listen and --unix may be given more than once, and together. Without them it serves at the sockets that LISTEN_FDS counts. For each socket it prints `listening PORT`, or `listening SOCKET`, once clients can come. A kill is as a power cut: every write that a FLUSH, or a FUA reply, has confirmed stays. With --cache ordered a FLUSH does not make anything durable: answered writes may be lost, the last ones first. nbdj-server runs it so that a signal loses no other write either.\n\nExit status: 0 ended as asked; 1 a fault of file, image, address, device or memory; 2 a refused command line; 4 a file or a device in use.",
+    after_help: "Example: nbdj serve d.img --listen 127.0.0.1:10809\n\n--listen and --unix may be given more than once, and together. Without them the server uses the sockets that LISTEN_FDS counts. For each socket it prints `listening PORT` or `listening SOCKET` once clients can connect. A kill has the effect of a power cut: every write that a FLUSH or a FUA reply has confirmed stays. With --cache ordered a FLUSH does not make anything durable: the last answered writes may be lost. nbdj-server runs this command so that a signal loses no answered write.\n\nExit status: 0 ended as asked; 1 a fault of file, image, address, device or memory; 2 a refused command line; 4 a file or a device in use.",
     usage: Some(
         "nbdj serve [OPTIONS] --listen <ADDR> <PATH>\n       nbdj serve [OPTIONS] --unix <SOCKET> <PATH>\n       nbdj serve [OPTIONS] <PATH>",
     ),
@@ -305,31 +305,31 @@ pub static SERVE: SubcommandRow<'static> = SubcommandRow {
             name: "listen",
             form: Form::Texts("ADDR"),
             tie: Tie::None,
-            help: "An address to listen on, as 127.0.0.1, ::1 or 127.0.0.1:10810; without a port 10809, and the system picks port 0",
+            help: "Address to listen on, as 127.0.0.1, ::1 or 127.0.0.1:10810; the port is 10809 unless given, and 0 lets the system choose one",
         },
         ArgumentRow {
             name: "unix",
             form: Form::Texts("SOCKET"),
             tie: Tie::None,
-            help: "The path of a Unix socket, which is made and at the end removed; one that nobody listens on is replaced",
+            help: "Path of a Unix socket, made at the start and removed at the end; a stale socket is replaced",
         },
         ArgumentRow {
             name: "unix-mode",
             form: Form::Text("MODE"),
             tie: Tie::Requires("unix"),
-            help: "Who may connect to each Unix socket, as the mode of its file in octal, 0 to 777, as 0660; by default what the umask leaves",
+            help: "Mode of each Unix socket's file, in octal, 0 to 777, as 0660: who may connect; without it the umask decides",
         },
         ArgumentRow {
             name: "workers",
             form: Form::ValueOr("W", "4", ValueParser::Unsigned(1, MOST_WORKERS)),
             tie: Tie::None,
-            help: "Clients that are served at a time: 1 to 16",
+            help: "Connections served at a time: 1 to 16",
         },
         ArgumentRow {
             name: "when-full",
             form: Form::TextOr("WAY", "wait"),
             tie: Tie::None,
-            help: "While each worker has a client, `wait` lets further ones wait, `refuse` closes their connections",
+            help: "What happens to a client if every worker is busy: `wait` lets it wait, `refuse` closes its connection",
         },
         FRAMES,
         CACHE,
@@ -337,79 +337,79 @@ pub static SERVE: SubcommandRow<'static> = SubcommandRow {
             name: "sessions",
             form: Form::ValueOr("K", "0", ValueParser::Unsigned(0, u64::MAX)),
             tie: Tie::None,
-            help: "Ends after serving K clients; 0 for no end",
+            help: "Ends the server after K sessions; 0 for no limit",
         },
         ArgumentRow {
             name: "handshake-timeout",
             form: Form::ValueOr("SECONDS", "30", ValueParser::Unsigned(1, 86_400)),
             tie: Tie::None,
-            help: "For so long a client may say nothing before its handshake is over: 1 to 86400",
+            help: "Longest silence of a client during the handshake, in seconds: 1 to 86400",
         },
         ArgumentRow {
             name: "idle-timeout",
             form: Form::ValueOr("SECONDS", "0", ValueParser::Unsigned(0, 86_400)),
             tie: Tie::None,
-            help: "For so long a client may say nothing once its handshake is over: 1 to 86400, or 0 for no end",
+            help: "Longest silence of a client after the handshake, in seconds: 1 to 86400, or 0 for no limit",
         },
         ArgumentRow {
             name: "flush-interval",
             form: Form::TextOr("SECONDS", "1"),
             tie: Tie::None,
-            help: "After so long a write is stored though no client flushes: 0.001 to 86400, as 0.1, or 0 for never",
+            help: "Stores a write after this many seconds even if no client flushes: 0.001 to 86400, as 0.1, or 0 for never",
         },
         ArgumentRow {
             name: "loss-bytes",
             form: Form::TextOr("BYTES", "64M"),
             tie: Tie::None,
-            help: "A power cut takes at most BYTES of answered writes: a write waits while more could be pending; 2M to 64M",
+            help: "A power cut loses at most BYTES of answered writes: a write waits while it could leave more pending; 2M to 64M",
         },
         ArgumentRow {
             name: "loss-seconds",
             form: Form::TextOr("SECONDS", "0"),
             tie: Tie::None,
-            help: "A write waits while an older one has been pending for longer: 0.001 to 86400, as 0.5, or 0 for any age",
+            help: "A write waits while an older one has been pending for more seconds: 0.001 to 86400, as 0.5, or 0 for no limit",
         },
         ArgumentRow {
             name: "export-name",
             form: Form::Text("NAME"),
             tie: Tie::None,
-            help: "The name that clients ask for the export by, up to 4075 bytes; by default the empty name",
+            help: "Name of the export, up to 4075 bytes; the empty name unless given",
         },
         ArgumentRow {
             name: "fresh-name",
             form: Form::Flag,
             tie: Tie::Requires("export-name"),
-            help: "Names the export NAME-N, with a new number N at each start, which is printed: clients of an earlier start are refused",
+            help: "Names the export NAME-N, with a new number N at each start, and prints it: clients of an earlier start are refused",
         },
         ArgumentRow {
             name: "on-fault",
             form: Form::TextOr("WAY", "exit"),
             tie: Tie::None,
-            help: "Once the device has failed: `exit` ends the server with status 1, `stay` answers each request with EIO",
+            help: "After a device fault: `exit` ends the server with status 1, `stay` answers every request with EIO",
         },
         ArgumentRow {
             name: "until-eof",
             form: Form::Flag,
             tie: Tie::None,
-            help: "Ends the sessions and the server, with all stored, once standard input ends",
+            help: "Stores everything and ends the server once standard input ends",
         },
         ArgumentRow {
             name: "status",
             form: Form::Text("SOCKET"),
             tie: Tie::None,
-            help: "The path of a Unix socket at which the server tells its figures over HTTP; see nbdj status",
+            help: "Path of a Unix socket at which the server gives its figures over HTTP; see nbdj status",
         },
         ArgumentRow {
             name: "device-timeout",
             form: Form::TextOr("SECONDS", "0"),
             tie: Tie::None,
-            help: "Ends the server at once with status 1 if a call of the device takes longer: 0.001 to 86400, as 0.1, or 0 for no limit",
+            help: "Ends the server with status 1 if a device call takes more seconds: 0.001 to 86400, as 0.1, or 0 for no limit",
         },
         ArgumentRow {
             name: "lock-check",
             form: Form::TextOr("SECONDS", "0"),
             tie: Tie::None,
-            help: "Takes the lock again and syncs the device this often, and a refusal is a device fault: 0.001 to 86400, as 0.1, or 0 for never",
+            help: "Seconds between checks that the image is still locked and can be synced: 0.001 to 86400, as 0.1, or 0 for never",
         },
         WAIT_LOCK,
         VERBOSE,
@@ -418,7 +418,7 @@ pub static SERVE: SubcommandRow<'static> = SubcommandRow {
 
 static STATUS: SubcommandRow<'static> = SubcommandRow {
     name: "status",
-    about: "Prints the figures of a running server: clients, rates, latencies, and what a power cut would take",
+    about: "Prints the figures of a running server: clients, rates, latencies, and what a power cut would lose",
     after_help: "Example: nbdj serve d.img --listen 127.0.0.1 --status d.status, and elsewhere: nbdj status d.status --watch\n\nExit status: 0 done; 1 no server answers there, or a fault of stream or memory; 2 a refused command line.",
     usage: None,
     arguments: &[
@@ -426,25 +426,25 @@ static STATUS: SubcommandRow<'static> = SubcommandRow {
             name: "socket",
             form: Form::Word("SOCKET"),
             tie: Tie::None,
-            help: "The socket that serve --status names",
+            help: "The socket given to serve --status",
         },
         ArgumentRow {
             name: "json",
             form: Form::Flag,
             tie: Tie::Excludes("watch"),
-            help: "Prints the figures as the server sends them: one JSON object",
+            help: "Prints the figures as the server sends them, as one JSON object",
         },
         ArgumentRow {
             name: "watch",
             form: Form::Flag,
             tie: Tie::Excludes("store"),
-            help: "Prints them anew each second, with rates: as a screen on a terminal, otherwise as one line each",
+            help: "Prints new figures every second, with rates: a screen on a terminal, otherwise a line",
         },
         ArgumentRow {
             name: "store",
             form: Form::Flag,
             tie: Tie::Excludes("json"),
-            help: "Prints no figures: has the server store all writes that it has answered, and returns once a power cut keeps them",
+            help: "Prints no figures: asks the server to store every write that it has answered, and returns once all are durable",
         },
         VERBOSE,
     ],
@@ -452,31 +452,31 @@ static STATUS: SubcommandRow<'static> = SubcommandRow {
 
 static PIPE: SubcommandRow<'static> = SubcommandRow {
     name: "pipe",
-    about: "Serves the transmission phase of one connection over standard input and output",
-    after_help: "Example: nbdj pipe d.img --cache writethrough <requests >replies\n\nA kill or a power cut keeps every write that a FLUSH, or a FUA reply, has confirmed. With --cache ordered a FLUSH does not make anything durable: answered writes may be lost, the last ones first.\n\nExit status: 0 the client has ended the session; 1 a fault of file, image, device, stream or memory; 2 a refused command line; 4 a file or a device in use.",
+    about: "Serves one connection over standard input and output: its transmission phase, without a handshake",
+    after_help: "Example: nbdj pipe d.img --cache writethrough <requests >replies\n\nA kill or a power cut keeps every write that a FLUSH or a FUA reply has confirmed. With --cache ordered a FLUSH does not make anything durable: the last answered writes may be lost.\n\nExit status: 0 the client has ended the session; 1 a fault of file, image, device, stream or memory; 2 a refused command line; 4 a file or a device in use.",
     usage: None,
     arguments: &[PATH, FRAMES, CACHE, VERBOSE],
 };
 
 static RECOVER: SubcommandRow<'static> = SubcommandRow {
     name: "recover",
-    about: "Recovers the device and prints the number of its last command",
-    after_help: "Example: nbdj recover d.img\n\nThe journal is copied into the image and is empty then. A kill or a power cut loses nothing.\n\nExit status: 0 done; 1 a fault of file, image, device or memory; 2 a refused command line; 4 a file or a device in use.",
+    about: "Recovers the image and prints the number of its last command",
+    after_help: "Example: nbdj recover d.img\n\nThe journal is copied into the image, and is empty afterwards. A kill or a power cut loses nothing.\n\nExit status: 0 done; 1 a fault of file, image, device or memory; 2 a refused command line; 4 a file or a device in use.",
     usage: None,
     arguments: &[PATH, JSON, WAIT_LOCK, VERBOSE],
 };
 
 static UPGRADE: SubcommandRow<'static> = SubcommandRow {
     name: "upgrade",
-    about: "Recovers the device, and gives it four journal areas in the place of two: layout 2",
-    after_help: "Example: nbdj upgrade d.img\n\nThe image stays. A kill or a power cut loses nothing: it leaves the one layout or the other.\n\nExit status: 0 done; 1 a fault of file, image, device or memory, or an area below 4M; 2 a refused command line; 4 a file or a device in use.",
+    about: "Recovers the image and converts it to layout 2: four journal areas instead of two",
+    after_help: "Example: nbdj upgrade d.img\n\nIts blocks stay as they are. A kill or a power cut loses nothing, and leaves one layout or the other.\n\nExit status: 0 done; 1 a fault of file, image, device or memory, or an area below 4M; 2 a refused command line; 4 a file or a device in use.",
     usage: None,
     arguments: &[PATH, WAIT_LOCK, VERBOSE],
 };
 
 static CHECK: SubcommandRow<'static> = SubcommandRow {
     name: "check",
-    about: "Prints what the device holds, and writes nothing",
+    about: "Prints what the image holds, and writes nothing",
     after_help: "Example: nbdj check d.img\n\nA kill or a power cut changes nothing.\n\nExit status: 0 the image is whole; 1 a fault of file, device or memory; 2 a refused command line; 3 the image is bad; 4 a file or a device in use.",
     usage: None,
     arguments: &[PATH, JSON, VERBOSE],
@@ -485,20 +485,20 @@ static CHECK: SubcommandRow<'static> = SubcommandRow {
 static REHEARSE: SubcommandRow<'static> = SubcommandRow {
     name: "rehearse",
     about: "Runs a script from standard input on a simulated device, crashes included",
-    after_help: "Example: nbdj rehearse <script\n\nEach line is one step; docs/SCRIPTS.md teaches the lines, and what each prints. A kill loses nothing but the simulated device.\n\nExit status: 0 done; 1 a fault of device, stream or memory, or a sweep that found a difference; 2 a refused command line, or a line that is no step.",
+    after_help: "Example: nbdj rehearse <script\n\nEach line is one step; docs/FORMATS.md describes them and what they print. A kill loses only the simulated device.\n\nExit status: 0 done; 1 a fault of device, stream or memory, or a sweep that found a difference; 2 a refused command line, or a line that is no step.",
     usage: None,
     arguments: &[
         ArgumentRow {
             name: "sweep",
             form: Form::Flag,
             tie: Tie::None,
-            help: "Runs it anew for each crash at a call of the device, and compares what is opened",
+            help: "Repeats the script with a crash at each device call, and compares what is found afterwards with what should be",
         },
         ArgumentRow {
             name: "faults",
             form: Form::Flag,
             tie: Tie::None,
-            help: "Runs it anew for each fault of a call of the device, crashes it, and compares what is opened",
+            help: "Repeats the script with a fault at each device call, then a crash, and compares in the same way",
         },
         VERBOSE,
     ],
