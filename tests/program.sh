@@ -969,9 +969,9 @@ else
     skipped 'the largest image' 'the file system takes no file of 66 GiB with holes'
 fi
 
-# The scripts that docs/SCRIPTS.md teaches, and what it says that they print.
-block() { awk -v kind="$1" -v k="$2" '$0 == "```" kind { n++; on = n == k; next } /^```/ { on = 0 } on' "$here/docs/SCRIPTS.md"; }
-for k in 1 2 3 4 5; do
+# The scripts that docs/FORMATS.md teaches, and what it says that they print.
+block() { awk -v kind="$1" -v k="$2" '$0 == "```" kind { n++; on = n == k; next } /^```/ { on = 0 } on' "$here/docs/FORMATS.md"; }
+for k in 1 2 3; do
     block script "$k" >input
     ends "script $k of the page" 0 "$(block prints "$k" | hex)" '' rehearse
 done

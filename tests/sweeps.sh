@@ -1,7 +1,7 @@
 #!/bin/sh
 # Sweeps scripts with the built program NBDJ: each is run anew for each crash at a call of the device, and for each fault of one, and
 # what is opened afterwards is compared with plain bytes. Swept are the scripts of tests/scripts, without their lines that crash the
-# device or let a call of it fail, those of docs/SCRIPTS.md, and some that are drawn. Prints how many runs with a crash there were, and
+# device or let a call of it fail, those of docs/FORMATS.md, and some that are drawn. Prints how many runs with a crash there were, and
 # last 'N passed, M failed'. Those that take many minutes are swept with --long alone.
 #
 # usage: tests/sweeps.sh [--long | --sample SEED]          (--sample: in an order drawn from the seed, for a minute)
@@ -74,7 +74,7 @@ is 'one of both at a time' 2 "$status"
 printf '%s\n' 'format 16 2097152 512' 'send 1 put 0 1 41' 'serve 1' 'answer 1' seal append publish upgrade >input
 for how in --sweep --faults; do ends "an upgrade of small areas, $how" 1 "$(text 'failed 22')" '' rehearse "$how"; done
 
-block() { awk -v kind="$1" -v k="$2" '$0 == "```" kind { n++; on = n == k; next } /^```/ { on = 0 } on' "$here/docs/SCRIPTS.md"; }
+block() { awk -v kind="$1" -v k="$2" '$0 == "```" kind { n++; on = n == k; next } /^```/ { on = 0 } on' "$here/docs/FORMATS.md"; }
 
 # names: the scripts that are swept, those of the page as `page K`, in the order of their names or in one drawn from the seed
 names() {
@@ -82,7 +82,7 @@ names() {
         name=$(basename "$script" .in)
         case " $(echo $long) " in *" $name "*) ;; *) echo "$name" ;; esac
     done
-    for k in 1 2 3 4 5; do echo "page $k"; done
+    for k in 1 2 3; do echo "page $k"; done
 }
 drawn_order() { while read -r name; do echo "$(printf %s "$seed $name" | cksum | cut -d ' ' -f 1) $name"; done | sort -n | cut -d ' ' -f 2-; }
 if [ -n "$seed" ]; then names | drawn_order >order; else names >order; fi

@@ -25,7 +25,7 @@ use std::fmt::Display;
 use std::io::{Read, Write};
 use std::marker::Brand;
 
-/// Runs a script from `input` on a simulated device, by `docs/SCRIPTS.md`, and answers the exit status: 0 if it is done, 2
+/// Runs a script from `input` on a simulated device, by `docs/FORMATS.md`, and answers the exit status: 0 if it is done, 2
 /// if a line is no step, 1 if an opening or something else is refused.
 ///
 /// The lines come one by one, and what a line prints is written before the next is read.

@@ -14,7 +14,7 @@ pub const CONNECTIONS: usize = 16;
 // The most bytes that a WRITE may announce: so many a server reads.
 const MOST_WRITTEN: u32 = 33_554_432;
 
-/// A line of a script, by `docs/SCRIPTS.md`.
+/// A line of a script, by `docs/FORMATS.md`.
 #[derive(Clone, Copy)]
 pub enum Line {
     /// A new device.
