@@ -11,7 +11,7 @@
 - The completion for bash, packaging/nbdj.bash: its commands are those of the man page.
 - Each wrong body, of crates/CRATE/must-fail/, of wrong-bodies/CRATE/ and of wrong-bodies/by-test/, changes texts that stand once in the
   crate's sources; those for a test name one.
-- docs/DESIGN.md has the table of the crates that tools/crate-table makes of crates.txt, and docs/HEADLINE.md those of the definitions
+- docs/DESIGN.md has the table of the crates that tools/crate-table makes of crates.txt, and docs/ASSURANCE.md those of the definitions
   that tools/headline-definitions makes of the sources.
 - The files of crates that documents name are there.
 - Prose wraps at 100 columns.
@@ -187,7 +187,7 @@ def check_design():
 
 def check_headline():
     wanted = subprocess.run([f"{TOP}/tools/headline-definitions"], capture_output=True, text=True, check=True).stdout.strip().split("\n\n")
-    found = re.findall(r"(?:^\|.*\n)+", read(f"{TOP}/docs/HEADLINE.md"), re.M)
+    found = re.findall(r"^\| File \| Lines \| Definitions \|\n(?:^\|.*\n)+", read(f"{TOP}/docs/ASSURANCE.md"), re.M)
     check("the definitions of the guarantee", wanted, [it.rstrip("\n") for it in found])
 
 
