@@ -184,6 +184,16 @@ full() {
     is "$name" "1||nbdj: $path: write of 1 bytes at 0: No space left on device (os error 28)|nbdj: device fault (1)" "$?|$(cat output)|$(paste -s -d '|' errors)"
 }
 
+# served IMAGE: what nbdj-server prints until its socket is there, without the numbers that differ; then it is stopped
+served() {
+    mkfifo told
+    "$here/packaging/nbdj-server" "$1" --unix socket >told 2>&1 &
+    sed -e '/^listening/{s/ .*//;q}' -e 's/has [0-9]* MiB free/has N MiB free/' told
+    kill $!
+    wait $!
+    rm told
+}
+
 # A disk of 12 MiB: a format without room leaves no file of its own, and what was there; journal and maps are allocated by a format, so
 # that only a copy into a hole lacks room, which loses nothing.
 on_full_disks() {
@@ -198,6 +208,10 @@ on_full_disks() {
     is 'a file with data with room' 'formatted 4276224' "$("$NBDJ" format small/some --blocks 16 --area 2M --preallocate 2>&1)"
     rm small/some
     "$NBDJ" format small/d.img --size 64M --area 2M >/dev/null
+    is 'nbdj-server warns of too little space' 'nbdj-server: small/d.img may need 64 MiB more, and its file system has N MiB free|listening' "$(served small/d.img | paste -s -d '|')"
+    "$NBDJ" format small/e.img --size 1M --area 2M >/dev/null
+    is 'nbdj-server where there is space' listening "$(served small/e.img)"
+    rm small/e.img
     dd if=/dev/zero of=small/rest bs=64K 2>/dev/null
     {
         request 0000 1 1 0 1048576
