@@ -13,7 +13,7 @@
   crate's sources; those for a test name one.
 - docs/DESIGN.md has the table of the crates that tools/crate-table makes of crates.txt, and docs/ASSURANCE.md those of the definitions
   that tools/headline-definitions makes of the sources.
-- The files of crates that documents name are there.
+- The files of crates that documents name are there, and so is what links between documents lead to.
 - Prose wraps at 100 columns.
 """
 import glob
@@ -233,6 +233,23 @@ def check_files():
         check(f"the files of crates that {os.path.basename(path)} names are there", [], [it for it in named if not os.path.isfile(f"{TOP}/crates/{it}")])
 
 
+def anchors(page):
+    """The anchors of a page's headings, as the usual viewers make them."""
+    headings = re.findall(r"^#+ (.*)$", re.sub(r"^```.*?^```$", "", page, flags=re.M | re.S), re.M)
+    return {re.sub(r"[^\w\- ]", "", it.lower()).replace(" ", "-") for it in headings}
+
+
+def check_links():
+    for path in documents():
+        dead = []
+        for link in re.findall(r"\]\(([^)\s]+)\)", read(path)):
+            target, _, anchor = link.partition("#")
+            file = os.path.normpath(os.path.join(os.path.dirname(path), target)) if target else path
+            if not re.match(r"\w+:", link) and not (os.path.exists(file) and (not anchor or anchor in anchors(read(file)))):
+                dead.append(link)
+        check(f"the links of {os.path.basename(path)} lead somewhere", [], dead)
+
+
 def check_columns():
     """Lines of prose and of lists; a table's row can't be broken, and a block of code has its own width."""
     for path in documents():
@@ -247,6 +264,7 @@ def main():
     check_design()
     check_headline()
     check_files()
+    check_links()
     check_columns()
     check_wrong_bodies()
     program = os.environ.get("NBDJ")

@@ -34,7 +34,7 @@ IsOpeningTold (Err refused) outcome = outcome ≡ Err (of_keeper refused.0)
 
 -- A device was formatted: this is what that came to, what it made of the device, and what was told of it. A device fault is one
 -- that the device counted, want of memory leaves it as it was, and on an honest one of which no place is loose the rest is as
--- docs/PROVED.md says of a format.
+-- docs/ASSURANCE.md says of a format.
 pub record IsFormatCarriedOut {D : Type 0} (state : D → State) (faults extent : D → ℕ) (honest : D → Type 0) (disk left : D) (geometry : Geometry) (outcome : Result (Unit {0}) Refusal) : Type 0 where
   pub given : Result (Unit {0}) KeeperFault
   pub told : IsFormatTold given outcome
