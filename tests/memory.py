@@ -723,7 +723,7 @@ def refuse_tests():
 
 with tempfile.TemporaryDirectory() as folder, ThreadPoolExecutor(len(os.sched_getaffinity(0))) as pool:
     os.chdir(folder)
-    source = f"{TOP}/tools/refuse_memory.c"
+    source = f"{TOP}/tests/preloads/refuse_memory.c"
     subprocess.run([os.environ.get("CC", "cc"), "-Wall", "-Werror", "-shared", "-fPIC", "-O2", "-o", "refuse.so", source, "-ldl"], check=True)
     subprocess.run([NBDJ, "format", "fresh.img", "--blocks", str(BLOCKS), "--area", "2097152"], check=True, stdout=subprocess.DEVNULL)
     refuse_scripts()

@@ -670,10 +670,10 @@ def gathered(folder):
 
 
 def preloaded(folder, name):
-    """The library that tools/NAME.c makes, to be preloaded."""
+    """The library that tests/preloads/NAME.c makes, to be preloaded."""
     preload = os.path.join(folder, f"{name}.so")
     if not os.path.exists(preload):
-        source = os.path.join(TOP, "tools", f"{name}.c")
+        source = os.path.join(TOP, "tests", "preloads", f"{name}.c")
         subprocess.run([os.environ.get("CC", "cc"), "-Wall", "-Werror", "-shared", "-fPIC", "-O2", "-o", preload, source, "-ldl"], check=True)
     return preload
 

@@ -33,7 +33,7 @@ trap 'stop; rm -rf "$folder"' EXIT
 trap 'exit 1' HUP INT TERM
 cd "$folder"
 cc -O2 -Wall -Werror -o client "$here/tools/bench_client.c" -lnbd -lpthread
-cc -shared -fPIC -O2 -Wall -Werror -o slow_sync.so "$here/tools/slow_sync.c"
+cc -shared -fPIC -O2 -Wall -Werror -o slow_sync.so "$here/tests/preloads/slow_sync.c"
 
 servers='nbdj nbdkit cache qemu'
 "$NBDJ" format nbdj.img --blocks $blocks --area 64M >/dev/null
