@@ -5,8 +5,10 @@
 # A second table has what writers, a flusher and a reader get beside one another. A third one has nbdj and nbdkit's file plugin with syncs
 # that take SLOW_SYNCS microseconds more (0 1000 5000), by a preload that sleeps in them: READs alone and beside 4 connections that write and
 # flush, and such connections. A fourth one has how long writes wait while the journal fills all the time, in both layouts of nbdj, with
-# areas of 16 MiB (4 of 8), and beside the others, for FILLING_SECONDS (60).
-# TABLES (servers syncs filling) says which are made: the first two, the third, the fourth.
+# areas of 16 MiB (4 of 8), and beside the others, for FILLING_SECONDS (60). A fifth one, only where it is asked for, has random WRITEs over
+# 2 GiB for SUSTAINED_SECONDS (120), of nbdj with two sizes of frames and areas and of nbdkit's file plugin, each limited to 256 MiB of memory
+# with its page cache, over images that were written by 1 MiB and by 4 KiB; it needs root and the memory controller of cgroups.
+# TABLES (servers syncs filling) says which are made: the first two, the third, the fourth; sustained is the fifth.
 # It needs cc and Debian's libnbd-dev, nbdkit and qemu-utils. ROUNDS (1) says how often each is measured, the servers in turn; the median
 # counts. BENCH_SECONDS (4) is the time of each measurement, BENCH_FOLDER where the images are, TMPDIR otherwise. After the time each
 # client waits for the answers that are due.
@@ -18,7 +20,7 @@ for tool in cc nbdkit qemu-nbd awk; do
     command -v $tool >/dev/null || { echo "bench: there is no $tool" >&2; exit 1; }
 done
 folder=$(mktemp -d "${BENCH_FOLDER:-${TMPDIR:-/tmp}}/bench.XXXXXX")
-server='' slowly=''
+server='' slowly='' inside='' life=120
 # stop: ends the server; the signal goes on from `timeout` to it
 stop() {
     if [ -n "$server" ]; then
@@ -43,6 +45,9 @@ for it in nbdkit cache qemu; do truncate -s $((blocks * 4096)) $it.img; done
 command_of() {
     case $1 in
     layout*) echo "$NBDJ serve $1.img --unix $1.sock --workers 16 --frames 16384" ;;
+    small*) echo "$NBDJ serve $1.img --unix $1.sock --workers 16 --frames 4096" ;;
+    large*) echo "$NBDJ serve $1.img --unix $1.sock --workers 16 --frames 32768" ;;
+    peer*) echo "nbdkit -f -U $1.sock file $1.img" ;;
     nbdj) echo "$NBDJ serve nbdj.img --unix nbdj.sock --workers 16 --frames $frames" ;;
     nbdkit) echo 'nbdkit -f -U nbdkit.sock file nbdkit.img' ;;
     cache) echo 'nbdkit -f -U cache.sock --filter=cache file cache.img' ;;
@@ -53,7 +58,7 @@ command_of() {
 # serve NAME: starts it, and waits until it takes clients
 serve() {
     rm -f "$1.sock"
-    TMPDIR=$folder timeout 120 env $slowly $(command_of "$1") >"$1.out" 2>"$1.err" &
+    TMPDIR=$folder timeout $life env $slowly $inside $(command_of "$1") >"$1.out" 2>"$1.err" &
     limited=$!
     tries=0
     while ! nbdinfo --size "nbd+unix:///?socket=$folder/$1.sock" >/dev/null 2>&1; do
@@ -238,12 +243,49 @@ measure_filling() {
     done
 }
 
+# Memory that is limited: what a server has written then has to go to the disk.
+measure_sustained() {
+    sustained=${SUSTAINED_SECONDS:-120} large_blocks=524288 group=/sys/fs/cgroup/memory/nbdj-bench
+    if ! mkdir -p "$group" 2>/dev/null || ! echo 268435456 >"$group/memory.limit_in_bytes"; then
+        echo 'bench: the memory of a server cannot be limited here' >&2
+        return
+    fi
+    printf '#!/bin/sh\necho $$ >%s/cgroup.procs\nexec "$@"\n' "$group" >within
+    chmod +x within
+    life=$((sustained + 600))
+    echo
+    echo '| Random WRITEs of 4 KiB over 2 GiB, 4 connections, a second | nbdj, 4,096 frames, areas of 64 MiB | nbdj, 32,768 frames, areas of 256 MiB | nbdkit file | Ratio of the first, the second |'
+    echo '|---|---|---|---|---|'
+    for piece in 256 1; do
+        "$NBDJ" format small.img --blocks $large_blocks --area 64M --layout 2 >/dev/null
+        "$NBDJ" format large.img --blocks $large_blocks --area 256M --layout 2 >/dev/null
+        truncate -s $((large_blocks * 4096)) peer.img
+        for it in small large peer; do
+            inside=''
+            serve $it
+            ./client fill "nbd+unix:///?socket=$folder/$it.sock" $large_blocks $piece
+            stop
+            echo 3 >/proc/sys/vm/drop_caches
+            inside=./within
+            serve $it
+            timeout $((sustained + 100)) ./client run "nbd+unix:///?socket=$folder/$it.sock" write 4 "$sustained" $large_blocks >$it.sustained
+            stop
+        done
+        inside=''
+        echo "$(cat small.sustained)|$(cat large.sustained)|$(cat peer.sustained)" |
+            awk -F '|' -v what="written by $((piece * 4)) KiB before" '{ printf "| %s | %s | %s | %s | %.2f, %.2f |\n", what, $1, $2, $3, $1 / $3, $2 / $3 }'
+        rm small.img large.img peer.img
+    done
+    life=120
+    rmdir "$group" 2>/dev/null || true
+}
+
 echo "$(uname -sr), $(nproc) processors, load $(cut -d ' ' -f 1-3 /proc/loadavg), images on $(df -T "$folder" | awk 'NR == 2 { print $2 }');"
 echo "$("$NBDJ" --version), $(nbdkit --version), $(qemu-nbd --version | head -n 1), libnbd $(nbdinfo --version | sed -n 's/^nbdinfo //p');"
 echo "$rounds rounds of $seconds s, an image of $((blocks / 256)) MiB."
 for table in ${TABLES:-servers syncs filling}; do
     case $table in
-    servers | syncs | filling) measure_$table ;;
+    servers | syncs | filling | sustained) measure_$table ;;
     *) echo "bench: there is no table $table" >&2; exit 2 ;;
     esac
 done

@@ -13,8 +13,8 @@
  *         mixed      4 KiB at random places, 7 of 10 read and the others written, 16 on their way
  *         write-512  512 bytes at random places, 16 on their way
  *         read-512   the same, read
- * bench_client fill URI BLOCKS
- *     Writes all those blocks, and a FLUSH.
+ * bench_client fill URI BLOCKS [PIECE]
+ *     Writes those blocks, PIECE at a time (256 unless given), and a FLUSH.
  * bench_client beside URI LENGTH FLUSHERS SECONDS BLOCKS
  *     Sends READs of so many bytes, at random places in the first so many blocks, one after another, while as many connections as
  *     FLUSHERS says write and flush as `flushed` does. Prints how many READs were answered a second, the median of their times, the
@@ -244,12 +244,13 @@ static void run(const char *uri, const char *name, unsigned count, double second
     printf("%.0f\n", answered / took);
 }
 
-static void fill(const char *uri, uint64_t blocks) {
+static void fill(const char *uri, uint64_t blocks, uint64_t piece) {
     struct connection it;
+    if (piece == 0 || piece > LONG_BLOCKS) fail("a piece");
     prepare(&it, uri, &kinds[3], 0, blocks);
-    for (uint64_t at = 0; at + LONG_BLOCKS <= blocks; at += LONG_BLOCKS) {
+    for (uint64_t at = 0; at + piece <= blocks; at += piece) {
         mark(&it, it.slots[0].data);
-        if (nbd_pwrite(it.nbd, it.slots[0].data, (size_t)LONG_BLOCKS * BLOCK, at * BLOCK, 0) == -1) fail("a write");
+        if (nbd_pwrite(it.nbd, it.slots[0].data, (size_t)piece * BLOCK, at * BLOCK, 0) == -1) fail("a write");
     }
     if (nbd_flush(it.nbd, 0) == -1) fail("a flush");
     finish(&it);
@@ -436,8 +437,8 @@ static void start(const char *path, char **command) {
 int main(int argc, char **argv) {
     if (argc == 7 && strcmp(argv[1], "run") == 0) {
         run(argv[2], argv[3], (unsigned)atoi(argv[4]), atof(argv[5]), strtoull(argv[6], NULL, 10));
-    } else if (argc == 4 && strcmp(argv[1], "fill") == 0) {
-        fill(argv[2], strtoull(argv[3], NULL, 10));
+    } else if ((argc == 4 || argc == 5) && strcmp(argv[1], "fill") == 0) {
+        fill(argv[2], strtoull(argv[3], NULL, 10), argc == 5 ? strtoull(argv[4], NULL, 10) : LONG_BLOCKS);
     } else if (argc == 7 && strcmp(argv[1], "beside") == 0) {
         beside(argv[2], (unsigned)atoi(argv[3]), (unsigned)atoi(argv[4]), atof(argv[5]), strtoull(argv[6], NULL, 10));
     } else if (argc == 5 && strcmp(argv[1], "stall") == 0) {
