@@ -13,6 +13,7 @@
   crate's sources; those for a test name one.
 - docs/DESIGN.md has the table of the crates that tools/crate-table makes of crates.txt, and docs/ASSURANCE.md those of the definitions
   that tools/headline-definitions makes of the sources.
+- The charts of docs/PERFORMANCE.md are those that tools/chart makes of its tables.
 - The files of crates that documents name are there, and so is what links between documents lead to.
 - Prose wraps at 100 columns.
 """
@@ -191,6 +192,12 @@ def check_headline():
     check("the definitions of the guarantee", wanted, [it.rstrip("\n") for it in found])
 
 
+def check_charts():
+    for heading, name in {"A server": "speed", "Without flushes": "ordered"}.items():
+        wanted = subprocess.run([f"{TOP}/tools/chart", heading], capture_output=True, text=True).stdout
+        check(f"the chart {name}.svg", wanted, read(f"{TOP}/docs/pictures/{name}.svg"))
+
+
 def check_wrong_bodies():
     crates = sorted(os.listdir(f"{TOP}/crates"))
     by_test = {it: dict(re.findall(r"^(crate|test): (.*)$", read(it), re.M)) for it in glob.glob(f"{TOP}/wrong-bodies/by-test/*.edit")}
@@ -263,6 +270,7 @@ def main():
     check_completion()
     check_design()
     check_headline()
+    check_charts()
     check_files()
     check_links()
     check_columns()
