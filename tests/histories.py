@@ -487,7 +487,7 @@ class Client:
 
 
 def live(server, clients, most, source):
-    """Lets clients ask until so many requests are answered, and a little longer or until another FLUSH or write with FUA is, and kills the server
+    """Lets clients ask until so many requests are answered, and a little longer or until an answer comes that confirms a write, and kills the server
     at once: what was answered too early is missing then. The history, how many answers there were, and how it ended."""
     history, count, selector, until = [], 0, selectors.DefaultSelector(), None
     is_rare, wait, at_answer = source.randrange(3) == 0, source.random() ** 2 * 0.03, source.randrange(3) > 0
@@ -502,7 +502,7 @@ def live(server, clients, most, source):
         for key, _ in selector.select(0.002):
             answers, is_there = key.data.take()
             count += len(answers)
-            confirms = confirms or any(it.kind == FLUSH or it.has_fua for it in answers)
+            confirms = confirms or any(it.kind == FLUSH or it.has_fua or it.kind == WRITE and server.mode == "writethrough" for it in answers)
             if not is_there:
                 raise ValueError(f"the server has gone: {server.process.stderr.read()}")
             if until is not None and at_answer and confirms:
