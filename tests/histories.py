@@ -3,20 +3,20 @@
 
 usage: tests/histories.py [--operations N] [--seed S] [--kills K] [--cache MODE] [--keep FOLDER] [--only-checker]
 
-Twelve clients write, clear, flush and read a few blocks of one image, half of them by TCP and half by a Unix socket, half of them one request at a
-time and half with up to eight on their way. Each WRITE puts a value of its own into each sector, so what a READ finds names the write. Then the
-server is killed (SIGKILL), or its power is cut: of what it wrote since the last sync any part stays (tools/undo_calls.c). It starts again over the same
-image, and the clients go on. From what was sent and answered, and when, tests/history_checker.py decides for each life of the server whether one
-order fits, as docs/ASSURANCE.md promises it: for `writeback`, for `writethrough` and for `ordered`, each over an image of its own.
+Twelve clients write, clear, flush and read a few blocks of one image. Half of them use TCP, half a Unix socket; half send one request at a time,
+half up to eight. Each WRITE puts a value of its own into each sector, so what a READ finds names the write. Then the server is killed (SIGKILL) or
+its power is cut: any part stays of what it wrote since the last sync (tools/undo_calls.c). It starts again over the same image, and the clients go
+on. For each life of the server tests/history_checker.py decides from the requests, the answers, their times and what is left whether one order fits,
+as docs/ASSURANCE.md promises it. This is done for `writeback`, `writethrough` and `ordered`, each over an image of its own.
 
-What this doesn't decide: BLOCK_STATUS isn't asked for; parts of sectors aren't written (other tests do that); that a FLUSH or a READ is answered
-at all, and how soon; what a checker is given of time is what this process saw, so an order that only a shorter delay would exclude fits. A life of
-which no order is found, and of which none is excluded, is counted as undecided, and isn't a failure.
+Not decided: what BLOCK_STATUS tells, because no client asks; writes of parts of sectors, which other tests send; whether and how soon a request is
+answered. Times are those of this process, so an order that only the exact times of the server would exclude fits. A life for which neither an order
+nor a contradiction is found counts as undecided, and isn't a failure.
 
 N is the number of requests that are answered (10,000), K that of kills and power cuts (one for each 400 requests), MODE one of the three. The seed is
-printed: with it each client asks for the same things in the same order, but what the schedule makes of them differs. With --keep the history of a
-life that no order fits is written to FOLDER. First the checker is checked: histories written by hand, with the verdict, and small ones drawn at
-random, beside a search through all orders; --only-checker does that alone. Prints a line for each check that fails, and last 'N passed, M failed'.
+printed. With the same seed each client draws the same requests, but the schedule differs. With --keep the history of a life that no order fits is
+written to FOLDER. First the checker is checked: with histories and verdicts that were written by hand, and with small drawn histories, for which all
+orders are tried; --only-checker does that alone. Prints a line for each check that fails, and last 'N passed, M failed'.
 """
 import argparse
 import collections
@@ -37,7 +37,7 @@ from history_checker import FITS, FLUSH, NEVER, READ, UNDECIDED, WRITE, WRONG, C
 TOP = os.path.dirname(os.path.dirname(os.path.abspath(__file__)))
 BLOCK, SECTOR = 4096, 512
 SECTORS = BLOCK // SECTOR
-# The blocks that clients write; behind them as many that only are read, so that frames are wanted for those.
+# The blocks that clients write, and those after them that are only read: more than there are frames, so that blocks leave memory.
 LIVE, FILLER, FRAMES = 64, 640, 512
 CELLS = range(LIVE * SECTORS)
 AREAS = {1: 2097152, 2: 4194304}
@@ -61,7 +61,7 @@ def check(name, wanted, got):
         print(f"FAILED {name}\n  wanted: {wanted}\n  got:    {got}", flush=True)
 
 
-# The checker, by histories that were written by hand. A letter is a client; then what it did, when that was sent, and when it was answered.
+# Histories that were written by hand, to check the checker. A letter is a client; the last numbers are the times of a request and its answer.
 
 
 def wrote(client, value, cells, sent, answered=NEVER, fua=False):
@@ -77,7 +77,7 @@ def flushed(client, sent, answered=NEVER):
 
 
 ONE, TWO, BOTH = range(0, 1), range(1, 2), range(0, 2)
-# What it shows, the mode, what each cell holds at the opening, the commands, what each cell holds at the next opening, or None, and the verdict.
+# A name, the mode, the value of each cell at the opening, the commands, the value of each cell at the next opening, and the verdict.
 BY_HAND = [
     ("a READ shows what was answered before", "writeback", (7,), [wrote("a", 1, ONE, 1, 2), found("b", (1,), 3, 4)], (1,), FITS),
     ("a READ shows what it overtook", "writeback", (7,), [wrote("a", 1, ONE, 1, 4), found("b", (7,), 2, 3)], (1,), FITS),
@@ -130,12 +130,12 @@ BY_HAND = [
     ("an overwritten value is back under a later write", "ordered", (7, 8), [wrote("a", 1, ONE, 1, 2), wrote("a", 2, ONE, 3, 4), wrote("a", 3, TWO, 5, 6)], (1, 3), WRONG),
     ("a value from before the opening is there that isn't the opening's", "ordered", (7,), [wrote("a", 1, ONE, 1, 2)], (6,), WRONG),
     # Zeroes, which name no write.
-    ("zeroes behind a write", "writeback", (7,), [wrote("a", 1, ONE, 1, 2), wrote("b", 0, ONE, 3, 4), found("c", (0,), 5, 6)], (0,), FITS),
+    ("zeroes after a write", "writeback", (7,), [wrote("a", 1, ONE, 1, 2), wrote("b", 0, ONE, 3, 4), found("c", (0,), 5, 6)], (0,), FITS),
     ("zeroes from before a write", "writeback", (0,), [wrote("a", 1, ONE, 1, 2), found("c", (0,), 3, 4)], (1,), WRONG),
-    ("zeroes that a write came behind", "writeback", (7,), [wrote("b", 0, ONE, 1, 2), wrote("a", 1, ONE, 3, 4), found("c", (0,), 5, 6)], (1,), WRONG),
+    ("zeroes that a later write has replaced", "writeback", (7,), [wrote("b", 0, ONE, 1, 2), wrote("a", 1, ONE, 3, 4), found("c", (0,), 5, 6)], (1,), WRONG),
     ("zeroes that were sent too late", "writeback", (7,), [found("c", (0,), 1, 2), wrote("b", 0, ONE, 3, 4)], (0,), WRONG),
     ("zeroes of one of two that are on their way", "writeback", (7,), [wrote("a", 0, ONE, 1), wrote("b", 0, ONE, 2), found("c", (0,), 3, 4)], (7,), FITS),
-    ("zeroes that one of two writes may have left, and a write that came behind both", "writeback", (7,),
+    ("zeroes that one of two commands may have left, and a write after both", "writeback", (7,),
      [wrote("a", 0, ONE, 1, 4), wrote("b", 0, ONE, 2, 3), wrote("c", 1, ONE, 5, 8), found("d", (1,), 6, 7), found("e", (0,), 9, 10)], (1,), WRONG),
     ("zeroes of a cell that was cleared with another one", "ordered", (7, 8), [wrote("a", 0, BOTH, 1, 4), found("b", (0, 8), 2, 3)], (0, 0), WRONG),
     ("flushed zeroes are lost", "writeback", (7,), [wrote("a", 0, ONE, 1, 2), flushed("a", 3, 4)], (7,), WRONG),
@@ -149,7 +149,7 @@ def check_by_hand():
 
 
 def some_order(mode, opening, commands, end):
-    """Whether an order fits, by a search through all of them."""
+    """Whether an order fits: all are tried."""
     must = {id(it) for it in confirmed(mode, commands)} if end else set()
     seen = set()
 
@@ -180,7 +180,7 @@ def some_order(mode, opening, commands, end):
 
 
 def drawn_history(source, most, count):
-    """A history of a right server over a few cells, and every second time with a few values exchanged."""
+    """A history of a right server over a few cells; in every second one a few values are changed."""
     opening = {cell: source.choice((0, 900 + cell)) for cell in range(most)}
     commands = []
     for number in range(1, count + 1):
@@ -209,7 +209,7 @@ def drawn_history(source, most, count):
 
 
 def check_drawn(seed):
-    """The verdict on small histories beside a search through all orders; some hundred commands of a right server."""
+    """Compares verdicts on small histories with a search through all orders."""
     source = random.Random(f"{seed} drawn")
     verdicts = collections.Counter()
     for number in range(500):
@@ -240,13 +240,13 @@ def pattern(value, cell):
 
 
 def values_of(cells, data):
-    """The value in each cell; a cell that no one write has left is none."""
+    """The value of each cell. A cell that isn't from one write is an error."""
     values = []
     for at, cell in enumerate(cells):
         bytes_of = data[at * SECTOR:(at + 1) * SECTOR]
         value = int.from_bytes(bytes_of[:4], "big")
         if bytes_of != pattern(value, cell):
-            raise ValueError(f"sector {cell} holds what no write has put there: {bytes_of[:24].hex()}..")
+            raise ValueError(f"sector {cell} isn't from one write: {bytes_of[:24].hex()}..")
         values.append(value)
     return tuple(values)
 
@@ -255,7 +255,7 @@ FILLED = b"".join(pattern(1, cell) for cell in range(LIVE * SECTORS, (LIVE + FIL
 
 
 def unsynced(log):
-    """Offset and old bytes of each write that no sync has confirmed, in their order."""
+    """Offset and old bytes of each write that no sync has confirmed, in the order of the writes."""
     writes, confirmed_number = [], 0
     with open(log, "rb") as file, contextlib.ExitStack() as stack:
         size = os.fstat(file.fileno()).st_size
@@ -272,7 +272,7 @@ def unsynced(log):
 
 
 def cut(image, log, source):
-    """Makes of an image what a power cut may leave of it. How many writes weren't synced."""
+    """Turns an image into one that a power cut may leave. The number of writes that no sync had confirmed."""
     writes = unsynced(log)
     way = source.choice(("old", "writes", "pieces", "pieces"))
     with open(image, "r+b") as file:
@@ -296,7 +296,7 @@ def cut(image, log, source):
 
 
 class Server:
-    """A server of one image, started and killed again and again."""
+    """A server of one image, which is started and killed again and again."""
 
     def __init__(self, folder, mode, layout, source):
         self.folder, self.mode, self.source = folder, mode, source
@@ -306,7 +306,7 @@ class Server:
         subprocess.run(words, check=True, stdout=subprocess.DEVNULL)
 
     def launch(self, *more):
-        """Starts it, and draws how it will end: whether that is a power cut."""
+        """Starts the process, and draws how slow its syncs are and whether a power cut ends it."""
         source = self.source
         self.is_cut = source.randrange(2)
         slow = source.choice((0, 1000, 4000, 15000))
@@ -325,7 +325,7 @@ class Server:
         self.port = int(told[0][1])
 
     def end(self):
-        """Kills it, and cuts the power where that was drawn. What it was."""
+        """Kills the process, and cuts the power if that was drawn. What was done."""
         self.process.kill()
         self.process.communicate()
         if not self.is_cut:
@@ -365,7 +365,7 @@ def request(kind, cookie, offset=0, length=0, flags=0):
 
 
 def asked(client, kind, offset=0, length=0, data=b""):
-    """A request of one client alone, and what a READ finds."""
+    """Sends a request and waits for its answer; the data of a READ."""
     client.sendall(request(kind, 1, offset, length) + data)
     reply = taken(client, 16)
     if reply != struct.pack(">IIQ", 0x67446698, 0, 1):
@@ -377,7 +377,7 @@ def asked(client, kind, offset=0, length=0, data=b""):
 
 
 class Client:
-    """Who it is, and what it asks for, through all lives of a server; its connection is of one of them."""
+    """A client through all lives of a server, with a connection to the present one."""
 
     def __init__(self, number, seed):
         self.number, self.source = number, random.Random(f"{seed} client {number}")
@@ -386,14 +386,14 @@ class Client:
         self.values = self.cookie = 0
 
     def connect(self, server, is_rare):
-        """To a server in whose life FLUSHes are rare, and there is no FUA; or not."""
+        """Connects. In some lives FLUSH is rare, and no write has FUA."""
         self.is_rare = is_rare
         self.socket = server.connect(self.by_tcp)
         self.socket.setblocking(False)
         self.unsent, self.unread, self.waiting = bytearray(), bytearray(), collections.deque()
 
     def sectors(self):
-        """First sector and count: mostly a few of the first blocks, whole ones or not, and now and then many."""
+        """First sector and count: mostly within a few of the first blocks, whole or in part; now and then many blocks."""
         source = self.source
         block = int(LIVE * source.random() ** 3)
         way = source.randrange(20)
@@ -406,7 +406,7 @@ class Client:
         return first, source.randint(SECTORS, LIVE * SECTORS - first)
 
     def draw(self):
-        """The next command, with its request."""
+        """The next command, and its request as bytes."""
         source = self.source
         kind = source.choices(KINDS, self.habit)[0]
         if kind == "FLUSH" and self.is_rare and source.randrange(4):
@@ -435,7 +435,7 @@ class Client:
         return command, request(kind, self.cookie, first * SECTOR, count * SECTOR, flags) + data
 
     def ask(self, history):
-        """Sends as much as it may have on its way."""
+        """Sends requests until as many wait for an answer as this client may have."""
         if len(self.waiting) > self.depth // 2:
             return
         while len(self.waiting) < self.depth:
@@ -452,7 +452,7 @@ class Client:
                 del self.unsent[:self.socket.send(self.unsent)]
 
     def take(self):
-        """Takes what has come; the commands that were answered, and whether the server is still there."""
+        """Receives what has come: the commands that were answered, and whether the connection is still open."""
         is_there, answers = True, []
         try:
             piece = self.socket.recv(MIB)
@@ -480,15 +480,15 @@ class Client:
             if is_filler:
                 first = command.name - LIVE * BLOCK
                 if data != FILLED[first:first + length]:
-                    raise ValueError(f"a READ of {length} bytes at {command.name}, which are written only once, found others")
+                    raise ValueError(f"a READ of {length} bytes at {command.name} shows other bytes than were written there at first")
             elif command.kind == READ:
                 command.values = values_of(command.cells, data)
         return answers, is_there
 
 
 def live(server, clients, most, source):
-    """Lets clients ask until so many requests are answered, and a little longer or until an answer comes that confirms a write, and kills the server
-    at once: what was answered too early is missing then. The history, how many answers there were, and how it ended."""
+    """Serves the clients until `most` requests are answered, and kills the server: a little later, or at once when the next answer confirms a
+    write, because a confirmation that came too early is wrong only then. The history, the number of answers, and how the server was ended."""
     history, count, selector, until = [], 0, selectors.DefaultSelector(), None
     is_rare, wait, at_answer = source.randrange(3) == 0, source.random() ** 2 * 0.03, source.randrange(3) > 0
     for client in clients:
@@ -504,7 +504,7 @@ def live(server, clients, most, source):
             count += len(answers)
             confirms = confirms or any(it.kind == FLUSH or it.has_fua or it.kind == WRITE and server.mode == "writethrough" for it in answers)
             if not is_there:
-                raise ValueError(f"the server has gone: {server.process.stderr.read()}")
+                raise ValueError(f"the server has closed a connection: {server.process.stderr.read()}")
             if until is not None and at_answer and confirms:
                 break
         if until is not None and at_answer and confirms:
@@ -530,7 +530,7 @@ def live(server, clients, most, source):
 
 
 def opened(server, source):
-    """Starts the server and reads the live cells; before and behind that it may be killed too."""
+    """Starts the server and reads all blocks that clients write. Some starts before that are cut short, and some servers are killed after it."""
     while source.randrange(5) == 0:
         server.launch()
         time.sleep(source.random() * 0.05)
@@ -543,9 +543,9 @@ def opened(server, source):
             for first in range(0, FILLER * BLOCK, MIB):
                 length = min(MIB, FILLER * BLOCK - first)
                 if asked(client, "READ", LIVE * BLOCK + first, length) != FILLED[first:first + length]:
-                    raise ValueError(f"blocks that are written only once hold others, of {length} bytes at {LIVE * BLOCK + first}")
+                    raise ValueError(f"{length} bytes at {LIVE * BLOCK + first} aren't those that were written there at first")
     if source.randrange(3) == 0:
-        # (so the clients find nothing in memory)
+        # (The next one has no block in memory.)
         server.end()
         server.launch()
         server.listen()
@@ -553,7 +553,7 @@ def opened(server, source):
 
 
 def fill(server):
-    """Writes the blocks that are only read from then on; this server ends in order."""
+    """Writes the blocks that are only read later. This server isn't killed: it stores all and ends."""
     server.launch("--sessions", "1")
     server.listen()
     with server.connect(0) as client:
@@ -602,7 +602,7 @@ def run(folder, mode, operations, kills, seed, kept, totals):
             check(f"{name}: one order fits", True, verdict != WRONG)
             opening = end
     except (ValueError, OSError) as error:
-        check(f"{mode}: each request is answered Ok, with what was written once", "no error", f"{error}")
+        check(f"{mode}: each request is answered Ok, and each sector is from one write", "no error", f"{error}")
     finally:
         if server.process and server.process.poll() is None:
             server.process.kill()

@@ -1,26 +1,28 @@
-"""Decides whether ONE order of commands explains what clients of a server saw, and what a kill left.
+"""Decides whether ONE order of commands explains what the clients of a server saw, and what a kill left.
 
-A history is of one life of a server, from an opening to a kill: what each cell of the image held at the opening, the commands of all clients,
-each with the moments at which it was sent and answered on one clock, and what each cell held at the next opening. A cell is any part of the
-image that is only written whole. Each WRITE puts a value of its own in all of its cells, so a value names its write; 0 stands for zeroes,
-which any number of commands may write.
+A history covers one life of a server, from an opening to a kill: the value of each cell at the opening, the commands of all clients with the
+times at which each was sent and answered, on one clock, and the value of each cell at the next opening. A cell is a part of the image that is
+only written whole. Each WRITE puts a value of its own into all of its cells, so a value names its write. Zeroes, the value 0, may come from any
+number of commands.
 
-What has to hold is what docs/ASSURANCE.md says. There is one order of the writes (WRITE, TRIM, WRITE_ZEROES) and of the READs. A command that
-was answered before another one was sent comes before it. A READ has, in all of its cells, the last values that were written before it. The
-image at the next opening is that after some first part of the order, which has each write that is confirmed: in `writeback` one that was
-answered before a FLUSH was sent that was answered, or that was answered with FUA; in `writethrough` each that was answered; in `ordered` none.
-A write that wasn't answered may be anywhere behind those that were answered before it was sent, or nowhere.
+docs/ASSURANCE.md says what has to hold. There is one order of the writes (WRITE, TRIM, WRITE_ZEROES) and the READs. A command that was answered
+before another one was sent comes before it. A READ shows, in all of its cells, the last values that were written before it. The next opening
+shows the image after a prefix of the order, and that prefix has each confirmed write. In `writeback` a write is confirmed if it was answered
+before a FLUSH was sent that was answered too, or if it has FUA and was answered; in `writethrough` if it was answered; in `ordered` never. A write
+without an answer may come anywhere after the commands that were answered before it was sent, or never.
 
-`judge` tells one of three:
-- FITS, with the order. It is looked for by a search that begins with what is known, and then checked anew, by a walk over it alone.
-- WRONG, with the reason: commands each of which has to come before the next, in a circle; or a value that can't be there.
-- UNDECIDED: no circle, and the search found no order. To decide any history takes time that grows without bound in its length (values that
-  are written blindly may stand in any order), so there must be such histories; hardly any from a server is one.
+`judge` returns one of three verdicts:
+- FITS, with an order. A search finds the order, and `is_order` then checks it by a walk that knows nothing of the search.
+- WRONG, with a reason: a circle of commands each of which has to come before the next, or a value that can't be there.
+- UNDECIDED: neither was found within a fixed number of tries. The problem is NP-hard, because values that nobody read may be written in any
+  order; the histories of a server have been decided within a few tries.
 
-WRONG is never told of a history that fits, since each step is forced: commands that had to come one before the other, by time; a READ behind
-the write that it shows; another write of that cell, if it is before the READ, before the write that it shows, and if it is behind the write
-behind the READ; and what follows from these. Zeroes have several writes that a READ may show: those are struck off that came too late or that
-another write of the cell came behind; what holds of all that are left holds.
+WRONG is never the verdict on a history that fits, because each step is forced. These edges are known: from a command to each that was sent after
+its answer; from a write to a READ that shows it; from a confirmed write to the next opening. If a READ shows write W in a cell, every other
+write of that cell comes before W or after the READ: so one that comes before the READ comes before W, and one that comes after W comes after the
+READ. For zeroes a READ has several writes to choose from. Those are dropped that come after the READ, or before another write of the cell that
+comes before it; what holds for all that are left holds. If the search gets stuck it names a choice that it made, one side of an either-or. The
+judge tries that side; if it leads to a circle the other side holds.
 """
 import bisect
 
@@ -31,8 +33,8 @@ TRIES = 60
 
 
 class Command:
-    """A command of a client. `cells` are those that it reads or writes, `values` what a READ found in each, or what a write puts there. One
-    that wasn't answered has the moment NEVER."""
+    """A command of a client: the cells that it reads or writes, and the value that a READ found or a write puts in each. A command without an
+    answer has NEVER as the time of it."""
 
     __slots__ = ("client", "kind", "sent", "answered", "cells", "values", "has_fua", "name")
 
@@ -53,7 +55,7 @@ class Command:
 
 
 def confirmed(mode, commands):
-    """The writes that have to be there after a kill."""
+    """The writes that the next opening has to show."""
     flushes = [it.sent for it in commands if it.kind == FLUSH and it.answered < NEVER]
     last = max(flushes, default=-NEVER)
     if mode == "ordered":
@@ -63,8 +65,9 @@ def confirmed(mode, commands):
 
 
 def is_order(opening, commands, end, must, order):
-    """Whether an order explains a history, by a walk over it; `end` stands in it as None. Writes without an answer may be left out."""
-    state, latest, seen, placed = dict(opening), -NEVER, set(), 0
+    """Whether an order explains a history, by a walk over it. In the order None stands for the next opening; writes without an answer may be
+    missing."""
+    state, latest, seen = dict(opening), -NEVER, set()
     for command in order:
         if command is None:
             if any(state[cell] != value for cell, value in end.items()) or any(id(it) not in seen for it in must):
@@ -74,21 +77,20 @@ def is_order(opening, commands, end, must, order):
             return False
         latest = max(latest, command.sent)
         seen.add(id(command))
-        placed += 1
         if command.kind == WRITE:
             state.update(zip(command.cells, command.values))
         elif any(state[cell] != value for cell, value in zip(command.cells, command.values)):
             return False
     needed = [it for it in commands if it.kind != FLUSH and it.answered < NEVER]
-    return all(id(it) in seen for it in needed) and (end is None or None in order) and placed == len(seen)
+    return all(id(it) in seen for it in needed) and (end is None or None in order)
 
 
 class Wrong(Exception):
-    """What can't be."""
+    """The history fits no order; the text says why."""
 
 
 def bits(number):
-    """The places of the ones in a number."""
+    """The numbers in a set, which is kept as the bits of a number."""
     while number:
         low = number & -number
         yield low.bit_length() - 1
@@ -96,16 +98,17 @@ def bits(number):
 
 
 class Judge:
-    """Places of commands: 0 is the opening, as a write of all cells, and the last one is what was found at the next opening, as a READ.
+    """What is known of the order of one history.
 
-    `before` and `behind` have for each the set of those that have to come before it and behind it, as the ones of a number. Which command was
-    answered before which was sent isn't kept for each two: the moments of the answers make a chain of their own, to which a command leads once
-    it was answered, and which leads to each that was sent later.
+    Commands go by numbers. 0 is the opening, as a write of all cells; the last number is the next opening, as a READ of all cells. `before` and
+    `after` hold for each command the set of those that have to come before it and after it. Edges by time aren't kept for each pair: the
+    answers, sorted by time, form a chain of further nodes. A command leads to the node of its own answer, and the node of the last answer
+    before a command was sent leads to that command.
     """
 
     def __init__(self, mode, opening, commands, end):
         shown = {value for it in commands if it.kind == READ for value in it.values} | set((end or {}).values())
-        # (a write without an answer that nobody saw is nowhere)
+        # (A write without an answer that nobody saw may as well have never happened.)
         self.commands = [None] + [
             it for it in commands
             if it.kind == READ and it.answered < NEVER or it.kind == WRITE and len(it.cells) and (it.answered < NEVER or it.values[0] == 0 or it.values[0] in shown)
@@ -114,7 +117,7 @@ class Judge:
         self.count = len(self.commands) + (end is not None)
         self.last = self.count - 1 if end is not None else None
         places = {id(it): place for place, it in enumerate(self.commands)}
-        # Those that have to come right before each, with the reason.
+        # For each command those that lead to it, other than by time, with the reason.
         self.reasons = [{} for _ in range(self.count)]
         self.chain = sorted((it.answered, place) for place, it in enumerate(self.commands) if place and it.answered < NEVER)
         moments = [moment for moment, _ in self.chain]
@@ -123,15 +126,15 @@ class Judge:
             self.entry[place] = bisect.bisect_left(moments, self.commands[place].sent)
         for it in self.must:
             if len(it.cells):
-                self.reasons[self.last][places[id(it)]] = "is confirmed" if end is not None else ""
+                self.reasons[self.last][places[id(it)]] = "it is confirmed"
         self.gather()
 
     def cells_of(self, place):
-        """The cells and values of a READ."""
+        """The cells of a READ with their values."""
         return self.end.items() if place == self.last else zip(self.commands[place].cells, self.commands[place].values)
 
     def gather(self):
-        """Who writes each cell, and which write each READ shows."""
+        """Finds the writes of each cell, and the write that each READ shows there."""
         self.writers = dict.fromkeys(self.opening, 1)
         self.zeroing = zeroing = {cell: int(value == 0) for cell, value in self.opening.items()}
         self.of_value = of_value = {}
@@ -145,25 +148,25 @@ class Judge:
                     self.writers[cell] |= 1 << place
                     if not value:
                         zeroing[cell] |= 1 << place
-        # A READ, the write that it shows, all writes of that cell: one cell of each such kind.
+        # Of the cells in which a READ shows the same write, and which have the same writes, one is enough.
         self.shows, self.zeroes = {}, {}
         self.readers = [place for place in range(1, self.count) if place == self.last or self.commands[place].kind == READ]
         for place in self.readers:
             for cell, value in self.cells_of(place):
                 writers = self.writers[cell]
                 if value == 0:
-                    # (a cell, the writes of zeroes that it may show, and whether that is one)
+                    # (the cell, the writes of zeroes that the READ may show, and whether only one is left)
                     self.zeroes.setdefault((place, writers, zeroing[cell]), [cell, zeroing[cell], False])
                     continue
                 source = 0 if self.opening[cell] == value else of_value.get(value)
                 if source is None or not writers >> source & 1:
-                    raise Wrong(f"{self.name(place)} has in cell {cell} the value {value}, which no write has put there since the opening, and which wasn't there then ({self.opening[cell]} was)")
+                    raise Wrong(f"{self.name(place)} shows the value {value} in cell {cell}: no write since the opening put it there, and the opening has {self.opening[cell]}")
                 self.show(place, source, writers, cell)
 
     def show(self, place, source, writers, cell):
         if (place, source, writers) not in self.shows:
             self.shows[place, source, writers] = cell
-            self.lead(source, place, f"cell {cell} has its value")
+            self.lead(source, place, f"that shows its value in cell {cell}")
 
     def name(self, place):
         return "the image at the opening" if place == 0 else "the image at the next opening" if place == self.last else str(self.commands[place])
@@ -172,9 +175,9 @@ class Judge:
         self.reasons[then].setdefault(first, reason)
 
     def close(self):
-        """Sorts the commands, and finds for each those before it and behind it; a circle is Wrong."""
+        """Finds all that come before and after each command; a circle is Wrong."""
         count, chain = self.count, self.chain
-        # The nodes: commands, and behind them the moments of answers, each of which follows a command and the moment before.
+        # The nodes are the commands, then the answers by time.
         node_count = count + len(chain)
         next_nodes = [[] for _ in range(node_count)]
         missing = [0] * node_count
@@ -207,23 +210,23 @@ class Judge:
                     ready.append(then)
         if len(order) < node_count - 1 or self.reasons[0]:
             raise Wrong(self.circle(next_nodes, {node for node in range(node_count) if missing[node]}))
-        behind = [0] * node_count
+        after = [0] * node_count
         for node in reversed(order):
             mine = 0
             for then in next_nodes[node]:
-                mine |= behind[then] | (1 << then if then < count else 0)
-            behind[node] = mine
-        behind[0] = (1 << count) - 2
-        self.before, self.behind, self.next_nodes, self.order = before[:count], behind[:count], next_nodes, order
+                mine |= after[then] | (1 << then if then < count else 0)
+            after[node] = mine
+        after[0] = (1 << count) - 2
+        self.before, self.after, self.next_nodes, self.order = before[:count], after[:count], next_nodes, order
 
     def circle(self, next_nodes, left):
-        """The commands of a short circle, each of which has to come before the next."""
+        """The commands of a short circle."""
         if self.reasons[0]:
             first, reason = next(iter(self.reasons[0].items()))
-            return f"{self.name(first)} has to come before the opening: {reason}"
+            return f"{self.name(first)}\n    comes before the opening: {reason}"
         best = None
         for start in sorted(it for it in left if it < self.count)[:200]:
-            # (moments cost nothing)
+            # (A step to or from an answer doesn't count.)
             reached, edge, found = {start: None}, [start], None
             while edge and found is None:
                 later, stack = [], list(edge)
@@ -251,23 +254,23 @@ class Judge:
                 break
         told = []
         for first, then in zip(best, best[1:]):
-            told.append(f"{self.name(first)}\n    comes before the next one: {self.reasons[then].get(first, 'it was answered before that was sent')}")
+            told.append(f"{self.name(first)}\n    comes before the following: {self.reasons[then].get(first, 'it was answered before that was sent')}")
         return "\n    ".join(told + [self.name(best[-1])])
 
     def infer(self):
-        """What has to come before what, by what READs show; whether anything was new."""
+        """Adds the edges that follow from what READs show; whether there was a new one."""
         is_new = False
-        before, behind = self.before, self.behind
+        before, after = self.before, self.after
         for (place, source, writers), cell in list(self.shows.items()):
             others = writers & ~(1 << source)
             early = before[place] & others & ~before[source]
             for it in bits(early):
-                why = ", of which this one is confirmed" if place == self.last and it in self.reasons[place] else ""
-                self.lead(it, source, f"{self.name(place)} shows the other one's value in cell {cell}, and comes behind both{why}")
+                why = ", because this one is confirmed" if place == self.last and it in self.reasons[place] else ""
+                self.lead(it, source, f"{self.name(place)} shows the other's value in cell {cell}, and comes after both{why}")
                 is_new = True
-            late = behind[source] & others & ~behind[place] & ~(1 << place)
+            late = after[source] & others & ~after[place] & ~(1 << place)
             for it in bits(late):
-                self.lead(place, it, f"it shows cell {cell} as {self.name(source)} left it, and the other one writes that cell behind it")
+                self.lead(place, it, f"it shows cell {cell} as {self.name(source)} left it, and the other writes that cell later than that")
                 is_new = True
         for key, entry in self.zeroes.items():
             place, writers, _ = key
@@ -275,32 +278,32 @@ class Judge:
             if is_one:
                 continue
             known = before[place] & writers
-            able &= ~behind[place]
+            able &= ~after[place]
             for it in bits(able & known):
-                if behind[it] & known:
+                if after[it] & known:
                     able &= ~(1 << it)
             if not able:
-                raise Wrong(f"{self.name(place)} has zeroes in cell {cell}: each command that wrote zeroes there comes behind it, or another write of the cell comes between")
+                raise Wrong(f"{self.name(place)} shows zeroes in cell {cell}: each command that wrote zeroes there comes after it, or another write of the cell comes between")
             entry[1] = able
             if able & (able - 1) == 0:
                 entry[2] = True
                 self.show(place, able.bit_length() - 1, writers, cell)
                 is_new = True
                 continue
-            common_before = common_behind = (1 << self.count) - 1
+            common_before = common_after = (1 << self.count) - 1
             for it in bits(able):
                 common_before &= before[it]
-                common_behind &= behind[it]
+                common_after &= after[it]
             for it in bits(common_before & ~before[place]):
-                self.lead(it, place, f"cell {cell} has zeroes, and each write of zeroes that may have left them comes behind it")
+                self.lead(it, place, f"that shows zeroes in cell {cell}, and each command that may have left them comes after this one")
                 is_new = True
-            for it in bits(common_behind & writers & ~behind[place]):
-                self.lead(place, it, f"it shows zeroes in cell {cell}, and the other one writes the cell behind all writes of zeroes that may have left them")
+            for it in bits(common_after & writers & ~after[place]):
+                self.lead(place, it, f"it shows zeroes in cell {cell}, and the other writes that cell after each command that may have left them")
                 is_new = True
         return is_new
 
     def wants(self, place):
-        """For each cell of a READ the writes that it may show there, as far as that is known."""
+        """For each cell of a READ the set of writes that it may show there."""
         found = []
         for cell, value in self.cells_of(place):
             if value:
@@ -310,8 +313,11 @@ class Judge:
         return found
 
     def search(self):
-        """An order, or a question: READs go as early as they can, and of the writes that can come next the one that is due first, unless it takes
-        away what a READ still has to show. Where each takes something away it asks which of two things holds, of which it took one for granted."""
+        """An order, or the choice at which the search got stuck.
+
+        A READ is put into the order as soon as it fits. Of the writes that may come next, the one that is due first comes, unless it destroys
+        a value that a READ still has to show.
+        """
         count, next_nodes = self.count, self.next_nodes
         due = [self.commands[it].answered if 0 < it < len(self.commands) else NEVER for it in range(count)] + [moment for moment, _ in self.chain]
         missing = [0] * len(due)
@@ -319,7 +325,7 @@ class Judge:
             due[node] = min([due[node], *(due[then] for then in next_nodes[node])])
             for then in next_nodes[node]:
                 missing[then] += 1
-        # By cell and write the READs that may show it there and aren't in the order, each with all that it may show there.
+        # For each cell and write the READs that may show it there and aren't in the order yet, each with all that it may show.
         wants, wanted = {place: self.wants(place) for place in self.readers}, {}
         for place, cells in wants.items():
             for cell, able in cells:
@@ -327,12 +333,12 @@ class Judge:
                     wanted.setdefault((cell, it), {})[place] = able
         last = dict.fromkeys(self.opening, 0)
         order, reads, writes = [], [], []
-        # Writes that aren't in the order.
+        # The commands that aren't in the order yet; of READs it doesn't matter.
         left = (1 << count) - 2
         needed = sum(1 for it in range(1, count) if it == self.last or self.commands[it].answered < NEVER)
 
         def arrive(nodes):
-            """Those that may come next, as what had to come before them has come."""
+            """Takes commands for which nothing is missing any more."""
             while nodes:
                 node = nodes.pop()
                 if node < count:
@@ -367,8 +373,8 @@ class Judge:
                         put(place)
                         again = True
 
-        def takes(place):
-            """2 if a write takes away what a READ has to show, 1 if there is something else that it may show, otherwise 0."""
+        def harm_of(place):
+            """2 if a write destroys what a READ has to show, 1 if that READ has another choice, otherwise 0."""
             found = 0
             for cell in self.commands[place].cells:
                 for able in wanted.get((cell, last[cell]), {}).values():
@@ -378,7 +384,7 @@ class Judge:
                         found = 1
             return found
 
-        def question():
+        def choice():
             for place in writes:
                 for cell in self.commands[place].cells:
                     for reader, able in wanted.get((cell, last[cell]), {}).items():
@@ -390,7 +396,7 @@ class Judge:
                 for cell, able in wants[reader]:
                     if not able >> last[cell] & 1:
                         return self.is_shown, (reader, cell, next(bits(able)))
-            raise AssertionError("there is nothing to ask")
+            raise AssertionError("there is no choice")
 
         arrive([node for node in range(1, len(due)) if not missing[node]])
         put_reads()
@@ -398,13 +404,13 @@ class Judge:
             writes.sort(key=lambda it: (due[it], it))
             chosen, worst = None, 2
             for it in writes:
-                harm = takes(it)
+                harm = harm_of(it)
                 if harm < worst:
                     chosen, worst = it, harm
                 if not harm:
                     break
             if chosen is None:
-                return None, question()
+                return None, choice()
             writes.remove(chosen)
             left &= ~(1 << chosen)
             for cell in self.commands[chosen].cells:
@@ -417,14 +423,14 @@ class Judge:
         return found, None
 
     def is_first(self, place, source, reader, cell, is_so):
-        """Whether a write of a cell comes before the one whose value a READ shows there, or else behind the READ."""
+        """Chooses whether a write of a cell comes before the one whose value a READ shows there; otherwise it comes after the READ."""
         if is_so:
-            self.lead(place, source, f"taken for granted, of cell {cell}")
+            self.lead(place, source, f"tried, for cell {cell}")
         else:
-            self.lead(reader, place, f"it shows cell {cell} as {self.name(source)} left it, and that the other one came before that leads to a circle")
+            self.lead(reader, place, f"it shows cell {cell} as {self.name(source)} left it, and if the other came before that there would be a circle")
 
     def is_shown(self, reader, cell, source, is_so):
-        """Whether these are the zeroes that a READ shows in a cell."""
+        """Chooses whether a READ shows the zeroes of this command in a cell."""
         entry = self.zeroes[reader, self.writers[cell], self.zeroing[cell]]
         entry[1] = 1 << source if is_so else entry[1] & ~(1 << source)
 
@@ -438,9 +444,9 @@ class Judge:
 
 
 def judge(mode, opening, commands, end=None):
-    """FITS and the order (with None for the kill), WRONG and the reason, or UNDECIDED and nothing. `opening` and `end` have a value for each
-    cell; without `end` nothing was found of the next opening."""
-    asked = []
+    """FITS with an order, WRONG with a reason, or UNDECIDED. `opening` and `end` have the value of each cell; without `end` nothing is known of the
+    next opening."""
+    tried = []
     try:
         it = Judge(mode if end is not None else "ordered", opening, commands, end)
     except Wrong as reason:
@@ -449,16 +455,16 @@ def judge(mode, opening, commands, end=None):
         try:
             it.settle()
         except Wrong as reason:
-            if not asked:
+            if not tried:
                 return WRONG, str(reason)
-            # The last thing that was taken for granted isn't so.
-            (it.reasons, it.shows, it.zeroes), answer, words = asked.pop()
+            # The choice that was tried last is wrong, so its other side holds.
+            (it.reasons, it.shows, it.zeroes), answer, words = tried.pop()
             answer(*words, False)
             continue
-        order, question = it.search()
+        order, choice = it.search()
         if order is not None:
             return FITS, order
-        answer, words = question
-        asked.append((it.state(), answer, words))
+        answer, words = choice
+        tried.append((it.state(), answer, words))
         answer(*words, True)
     return UNDECIDED, None
