@@ -283,7 +283,7 @@ class Judge:
                 if after[it] & known:
                     able &= ~(1 << it)
             if not able:
-                raise Wrong(f"{self.name(place)} shows zeroes in cell {cell}: each command that wrote zeroes there comes after it, or another write of the cell comes between")
+                raise Wrong(self.no_zeroes(place, cell))
             entry[1] = able
             if able & (able - 1) == 0:
                 entry[2] = True
@@ -301,6 +301,19 @@ class Judge:
                 self.lead(place, it, f"it shows zeroes in cell {cell}, and the other writes that cell after each command that may have left them")
                 is_new = True
         return is_new
+
+    def no_zeroes(self, place, cell):
+        """Why a READ can't show zeroes in a cell, with the last commands that wrote zeroes there."""
+        told = [f"{self.name(place)}\n    shows zeroes in cell {cell}, which no command can have left there:"]
+        for it in list(bits(self.zeroing[cell]))[-3:]:
+            later = self.after[it] & self.before[place] & self.writers[cell]
+            if self.after[place] >> it & 1:
+                told.append(f"{self.name(it)} comes after it")
+            elif later:
+                told.append(f"{self.name(it)} comes before {self.name(next(bits(later)))}")
+            else:
+                told.append(f"{self.name(it)} was excluded by a trial")
+        return "\n    ".join(told)
 
     def wants(self, place):
         """For each cell of a READ the set of writes that it may show there."""
