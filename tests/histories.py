@@ -25,6 +25,7 @@ import mmap
 import os
 import random
 import selectors
+import signal
 import socket
 import struct
 import subprocess
@@ -618,6 +619,8 @@ def main():
     words.add_argument("--keep")
     words.add_argument("--only-checker", action="store_true")
     given = words.parse_args()
+    # (So that a server doesn't outlive a test that is stopped.)
+    signal.signal(signal.SIGTERM, lambda *_: sys.exit(1))
     print(f"the seed is {given.seed}", flush=True)
     began = time.monotonic()
     check_by_hand()
