@@ -127,6 +127,9 @@ class Judge:
         for it in self.must:
             if len(it.cells):
                 self.reasons[self.last][places[id(it)]] = "it is confirmed"
+        # The commands of which more is known than in the last round, and the cells that no round has looked at yet.
+        self.before = self.after = None
+        self.news, self.unseen = 0, set()
         self.gather()
 
     def cells_of(self, place):
@@ -166,6 +169,7 @@ class Judge:
     def show(self, place, source, writers, cell):
         if (place, source, writers) not in self.shows:
             self.shows[place, source, writers] = cell
+            self.unseen.add((place, source, writers))
             self.lead(source, place, f"that shows its value in cell {cell}")
 
     def name(self, place):
@@ -217,6 +221,11 @@ class Judge:
                 mine |= after[then] | (1 << then if then < count else 0)
             after[node] = mine
         after[0] = (1 << count) - 2
+        if self.before is None:
+            self.news = (1 << count) - 1
+        else:
+            known = zip(self.before, self.after, before, after)
+            self.news = sum(1 << place for place, (one, other, new, newer) in enumerate(known) if one != new or other != newer)
         self.before, self.after, self.next_nodes, self.order = before[:count], after[:count], next_nodes, order
 
     def circle(self, next_nodes, left):
@@ -260,8 +269,12 @@ class Judge:
     def infer(self):
         """Adds the edges that follow from what READs show; whether there was a new one."""
         is_new = False
-        before, after = self.before, self.after
-        for (place, source, writers), cell in list(self.shows.items()):
+        before, after, news, unseen = self.before, self.after, self.news, self.unseen
+        self.unseen = set()
+        for key, cell in list(self.shows.items()):
+            place, source, writers = key
+            if not (news >> place | news >> source) & 1 and key not in unseen:
+                continue
             others = writers & ~(1 << source)
             early = before[place] & others & ~before[source]
             for it in bits(early):
@@ -275,7 +288,7 @@ class Judge:
         for key, entry in self.zeroes.items():
             place, writers, _ = key
             cell, able, is_one = entry
-            if is_one:
+            if is_one or not (news >> place & 1 or news & able or key in unseen):
                 continue
             known = before[place] & writers
             able &= ~after[place]
@@ -444,8 +457,9 @@ class Judge:
 
     def is_shown(self, reader, cell, source, is_so):
         """Chooses whether a READ shows the zeroes of this command in a cell."""
-        entry = self.zeroes[reader, self.writers[cell], self.zeroing[cell]]
-        entry[1] = 1 << source if is_so else entry[1] & ~(1 << source)
+        key = reader, self.writers[cell], self.zeroing[cell]
+        self.zeroes[key][1] = 1 << source if is_so else self.zeroes[key][1] & ~(1 << source)
+        self.unseen.add(key)
 
     def state(self):
         return [dict(it) for it in self.reasons], dict(self.shows), {key: list(entry) for key, entry in self.zeroes.items()}
@@ -472,6 +486,7 @@ def judge(mode, opening, commands, end=None):
                 return WRONG, str(reason)
             # The choice that was tried last is wrong, so its other side holds.
             (it.reasons, it.shows, it.zeroes), answer, words = tried.pop()
+            it.before = it.after = None
             answer(*words, False)
             continue
         order, choice = it.search()
