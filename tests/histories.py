@@ -5,7 +5,7 @@ usage: tests/histories.py [--operations N] [--seed S] [--kills K] [--cache MODE]
 
 Twelve clients write, clear, flush and read a few blocks of one image. Half of them use TCP, half a Unix socket; half send one request at a time,
 half up to eight. Each WRITE puts a value of its own into each sector, so what a READ finds names the write. Then the server is killed (SIGKILL) or
-its power is cut: any part stays of what it wrote since the last sync (tools/undo_calls.c). It starts again over the same image, and the clients go
+its power is cut: any part stays of what it wrote since the last sync (tests/preloads/undo_calls.c). It starts again over the same image, and the clients go
 on. For each life of the server tests/history_checker.py decides from the requests, the answers, their times and what is left whether one order fits,
 as docs/ASSURANCE.md promises it. This is done for `writeback`, `writethrough` and `ordered`, each over an image of its own.
 
@@ -231,7 +231,7 @@ def preloaded(folder, name):
     """The library that tools/NAME.c makes, to be preloaded."""
     preload = f"{folder}/{name}.so"
     if not os.path.exists(preload):
-        words = ["-Wall", "-Werror", "-shared", "-fPIC", "-O2", "-pthread", "-o", preload, f"{TOP}/tools/{name}.c", "-ldl"]
+        words = ["-Wall", "-Werror", "-shared", "-fPIC", "-O2", "-pthread", "-o", preload, f"{TOP}/tests/preloads/{name}.c", "-ldl"]
         subprocess.run([os.environ.get("CC", "cc"), *words], check=True)
     return preload
 
