@@ -1,0 +1,189 @@
+#!/bin/sh
+# The virtual machines of docs/SERVING.md, "Virtual machines": QEMU by both of its command lines, and a domain of libvirt with the XML of the
+# page, over a served image. The machine starts from the image, reads its second sector and writes that to its ninth. NBDJ names the program.
+#
+# usage: tests/libvirt.sh
+#
+# libvirtd is one of its own, in a temporary folder, with the settings that Debian ships but for the path of its socket. It needs root, and
+# of Debian qemu-system-x86, libvirt-daemon-system, libvirt-clients, libnbd-bin and python3; what is missing is told, and what needs it is not
+# tried. ./test doesn't run it. The last line is 'N passed, M failed'.
+set -u
+here=$(CDPATH='' cd "$(dirname "$0")/.." && pwd)
+. "$here/tests/checks.sh"
+server='' machine='' daemon='' logger=''
+release() {
+    [ -z "$machine" ] || kill -9 "$machine" 2>/dev/null
+    [ -z "$daemon" ] || { quiet virsh destroy nbdj-test; quiet virsh undefine nbdj-test; kill "$daemon"; } >/dev/null 2>&1
+    [ -z "$logger" ] || kill "$logger"
+    [ -z "$server" ] || kill -9 "$server" 2>/dev/null
+}
+trap 'release; rm -rf "$folder"' EXIT
+begin=$(date +%s)
+lacks=''
+[ "$(id -u)" -eq 0 ] || lacks='not root'
+for program in qemu-system-x86_64 nbdcopy python3; do
+    command -v "$program" >/dev/null 2>&1 || lacks="there is no $program"
+done
+if [ -n "$lacks" ]; then
+    echo "skipped: $lacks"
+    exit 0
+fi
+page=$here/docs/SERVING.md
+# (libvirt's machine runs as a user of its own, which has to reach the socket)
+chmod 755 "$folder"
+
+# quiet WORD..: its status, and where that isn't 0 what it said
+quiet() {
+    timeout 120 "$@" >output 2>&1 </dev/null
+    status=$?
+    echo "$status"
+    [ $status -eq 0 ] || tail -n 3 output
+}
+
+# A boot sector that reads the second sector by the BIOS and writes it to the ninth, and a second sector of bytes that differ.
+python3 - <<'BOOT'
+code = bytes.fromhex(
+    "31c0 8ed8 8ec0 8ed0 bc007c"        # segments 0, a stack
+    "b80102 b90200 ba8000 bb0080 cd13"  # reads one sector of disk 0x80: cylinder 0, head 0, sector 2, to 0:8000
+    "720e"                              # a fault: halt
+    "b80103 b90900 ba8000 bb0080 cd13"  # writes it to sector 9
+    "f4 ebfd"                           # halt
+)
+with open("source", "wb") as file:
+    file.write(code.ljust(510, b"\0") + b"\x55\xaa" + bytes(n * n % 251 for n in range(512)))
+    file.truncate(16 << 20)
+with open("wanted", "wb") as file:
+    file.write(bytes(n * n % 251 for n in range(512)))
+BOOT
+
+# serves WORD..: a new image with the sectors, served
+serves() {
+    rm -f d.img
+    "$NBDJ" format d.img --size 16M --area 8M >/dev/null
+    : >heard
+    "$here/packaging/nbdj-server" d.img --workers 16 "$@" >heard 2>serve_errors &
+    server=$!
+    tries=0
+    until grep -q '^listening ' heard || [ $tries -eq 200 ]; do
+        sleep 0.1
+        tries=$((tries + 1))
+    done
+    at=$(sed -n 's/^listening //p' heard)
+    case $at in
+    */*) uri="nbd+unix:///?socket=$at" ;;
+    *) uri=nbd://127.0.0.1:$at ;;
+    esac
+    is "the server listens at $1" 0 "$(quiet nbdcopy --flush source "$uri")"
+}
+# ninth: the ninth sector of the export
+ninth() { timeout 60 nbdcopy "$uri" found >&2 && dd if=found bs=512 skip=8 count=1 status=none; }
+# written NAME: waits until the machine has written its sector
+written() {
+    tries=0
+    until ninth | cmp -s - wanted || [ $tries -eq 240 ]; do
+        sleep 0.5
+        tries=$((tries + 1))
+    done
+    is "$1: the machine writes its sector" yes "$(ninth | cmp -s - wanted && echo yes)"
+}
+# stopped NAME: the server stores what was written, and the sector is in the image when it is opened anew
+stopped() {
+    kill -TERM "$server"
+    wait "$server"
+    is "$1: a stop" '0|' "$?|$(cat serve_errors)"
+    : >heard
+    "$here/packaging/nbdj-server" d.img --unix "$folder/after" >heard 2>serve_errors &
+    server=$!
+    tries=0
+    until grep -q '^listening ' heard || [ $tries -eq 200 ]; do
+        sleep 0.1
+        tries=$((tries + 1))
+    done
+    uri="nbd+unix:///?socket=$folder/after"
+    is "$1: the sector is in the image" yes "$(ninth | cmp -s - wanted && echo yes)"
+    kill -TERM "$server"
+    wait "$server"
+    server=''
+}
+
+# The command lines of the page: the first one in one line, and the second one over two.
+lines=$(sed -n '/^    qemu-system-x86_64 /,/^$/p' "$page" | sed 's/^    //; s/\\$//')
+short=$(printf '%s\n' "$lines" | sed -n 's/^qemu-system-x86_64 \(-drive .*\)/\1/p')
+long=$(printf '%s\n' "$lines" | sed -n '/^qemu-system-x86_64 -device /,$p' | tr '\n' ' ' | sed 's/^qemu-system-x86_64 //')
+for way in short long; do
+    eval "words=\$$way"
+    is "$way: the page has the command" yes "$(case $words in *10809*) echo yes ;; esac)"
+    serves --listen 127.0.0.1:0
+    # shellcheck disable=SC2046
+    qemu-system-x86_64 -nodefaults -display none -machine accel=tcg $(printf '%s' "$words" | sed "s/10809/$at/") >machine_output 2>&1 </dev/null &
+    machine=$!
+    written "QEMU, $way"
+    kill "$machine"
+    wait "$machine"
+    is "QEMU, $way: what it said" '' "$(grep -v 'terminating on signal 15' machine_output)"
+    machine=''
+    stopped "QEMU, $way"
+done
+
+lacks=''
+for program in libvirtd virtlogd virsh; do
+    [ -n "$(PATH="$PATH:/usr/sbin:/sbin" command -v $program)" ] || lacks="there is no $program"
+done
+if [ -n "$lacks" ]; then
+    skipped 'a domain of libvirt' "$lacks"
+else
+    PATH=$PATH:/usr/sbin:/sbin
+    mkdir run
+    # (libvirtd asks the one of the system for logs, where none runs for another)
+    if [ ! -S /run/libvirt/virtlogd-sock ]; then
+        virtlogd --pid-file "$folder/run/logger.pid" >virtlogd_output 2>&1 &
+        logger=$!
+    fi
+    printf 'unix_sock_dir = "%s/run"\nauth_unix_rw = "none"\nauth_unix_ro = "none"\n' "$folder" >libvirtd.conf
+    libvirtd --config libvirtd.conf --pid-file "$folder/run/pid" >libvirtd_output 2>&1 &
+    daemon=$!
+    tries=0
+    until [ -S run/libvirt-sock ] || [ $tries -eq 300 ]; do
+        sleep 0.1
+        tries=$((tries + 1))
+    done
+    export LIBVIRT_DEFAULT_URI="qemu+unix:///system?socket=$folder/run/libvirt-sock"
+    is 'libvirtd answers' 0 "$(quiet virsh version)"
+    serves --unix "$folder/socket" --unix-mode 0666
+    disk=$(sed -n '/^```xml$/,/^```$/p' "$page" | grep -v '^```' | sed "s,/run/nbdj-data/socket,$folder/socket,")
+    is 'the page has the XML of a disk' yes "$(case $disk in "<disk "*"$folder/socket"*"</disk>") echo yes ;; esac)"
+    cat >domain.xml <<XML
+<domain type='qemu'>
+  <name>nbdj-test</name>
+  <memory unit='MiB'>64</memory>
+  <os><type arch='x86_64' machine='q35'>hvm</type><boot dev='hd'/></os>
+  <devices>
+$disk
+  </devices>
+</domain>
+XML
+    for round in 1 2; do
+        is "libvirt, $round: define" 0 "$(quiet virsh define domain.xml)"
+        is "libvirt, $round: start" 0 "$(quiet virsh start nbdj-test)"
+        is "libvirt, $round: its state" running "$(virsh domstate nbdj-test 2>&1 | head -n 1)"
+        written "libvirt, $round"
+        is "libvirt, $round: its disk" "network|disk|vda" "$(virsh domblklist --details nbdj-test 2>&1 | awk '/vda/ { print $1 "|" $2 "|" $3 }')"
+        is "libvirt, $round: stop" 0 "$(quiet virsh destroy nbdj-test)"
+        is "libvirt, $round: its state behind the stop" 'shut off' "$(virsh domstate nbdj-test 2>&1 | head -n 1)"
+        is "libvirt, $round: undefine" 0 "$(quiet virsh undefine nbdj-test)"
+        # The second start has to write the sector anew.
+        [ $round = 2 ] || is 'the sector is cleared' 0 "$(quiet nbdcopy --flush source "$uri")"
+    done
+    stopped libvirt
+    kill "$daemon"
+    wait "$daemon" 2>/dev/null
+    [ "$failed" -eq 0 ] || tail -n 20 libvirtd_output
+    daemon=''
+    if [ -n "$logger" ]; then
+        kill "$logger"
+        wait "$logger" 2>/dev/null
+        logger=''
+    fi
+fi
+echo "$(($(date +%s) - begin)) s"
+the_end
