@@ -46,6 +46,9 @@ WantedBy=dev-virtio\\x2dports-commands.device
 BESIDE = {"usr/local/lib/agent.py": "tests/guest/agent.py", "usr/local/lib/records.py": "tests/guest/records.py", "usr/local/lib/client.py": "tests/failover/client.py"}
 SOCKET = "/run/nbdj-data/socket"
 CLIENT = f"python3 /usr/local/lib/client.py 'nbd+unix:///?socket={SOCKET}'"
+CACHE = os.environ.get("CACHE")
+# The parts of ./test that a guest runs: what the program does in the kernel of a whole machine. All of it would take hours without KVM.
+PARTS = ["release.sh", "devices.sh", "clients.sh", "standby.sh"]
 passed, failed = 0, 0
 # What a trial tells beside its time.
 told = []
@@ -127,7 +130,7 @@ class Guest:
                 probe.bind(("127.0.0.1", 0))
                 self.forward = probe.getsockname()[1]
         self.process = subprocess.Popen([
-            "qemu-system-x86_64", "-nodefaults", "-display", "none", "-no-reboot", "-machine", "q35", "-accel", "tcg,thread=multi", "-cpu", "max,svm=off", "-smp", "2", "-m", "1024",
+            "qemu-system-x86_64", "-nodefaults", "-display", "none", "-no-reboot", "-machine", "q35", "-accel", "tcg,thread=multi", "-cpu", "Nehalem", "-smp", "2", "-m", "1024",
             "-kernel", f"{self.made}/vmlinuz", "-initrd", f"{self.made}/initrd.img", "-append", "root=/dev/vda rw console=ttyS0 mitigations=off systemd.getty_auto=no",
             "-serial", f"file:{console}",
             "-drive", f"file={self.work}/disk,format=raw,if=virtio", "-drive", f"file={self.work}/brought,format=raw,if=virtio,readonly=on",
@@ -183,6 +186,24 @@ class Guest:
         return False
 
 
+def holes():
+    """Prints the bytes of the export that are holes; for the guest."""
+    return f"""python3 - <<'EOF'
+import nbd
+h = nbd.NBD()
+h.add_meta_context("base:allocation")
+h.connect_uri("nbd+unix:///?socket={SOCKET}")
+at, holes = 0, 0
+def met(context, offset, entries, error):
+    global at, holes
+    for length, state in zip(entries[::2], entries[1::2]):
+        at, holes = at + length, holes + length * (state & 1)
+while at < h.get_size():
+    h.block_status(h.get_size() - at, at, met)
+print(holes)
+EOF"""
+
+
 def package():
     """The bytes of Debian's package of the program."""
     with tempfile.TemporaryDirectory() as folder:
@@ -191,12 +212,17 @@ def package():
             return file.read()
 
 
+def bundle():
+    """The bytes of a bundle of git with the commit that is checked out."""
+    return subprocess.run(["git", "-C", TOP, "bundle", "create", "-q", "-", "HEAD"], capture_output=True, check=True).stdout
+
+
 class Machines:
     """The guests of the trials: one with the package and a served image, and one that is a client over the network."""
 
     def __init__(self, work):
         self.work = work
-        self.server = Guest(work, "server", {"nbdj.deb": package()})
+        self.server = Guest(work, "server", {"nbdj.deb": package(), "nbdj.bundle": bundle()})
         self.peer = None
 
 
@@ -214,6 +240,9 @@ def installed(machines):
     check("the units", "", guest.asked("the units", "systemd-analyze verify --man=no nbdj@data.service nbdj@data.socket"))
     guest.asked("set up", "install -d -o nbdj -g nbdj /var/lib/nbdj")
     guest.asked("set up", "runuser -u nbdj -- nbdj format /var/lib/nbdj/data.img --size 256M")
+    if CACHE:
+        drop = "/etc/systemd/system/nbdj@data.service.d"
+        guest.asked("set up", f"mkdir -p {drop} && printf '[Service]\\nExecStart=\\nExecStart=nbdj-server /var/lib/nbdj/%%i.img --workers 16 --verbose --cache {CACHE}\\n' >{drop}/cache.conf")
     guest.asked("set up", "systemctl enable --now nbdj@data")
     check("both are active", "active\nactive", guest.asked("both", "systemctl is-active nbdj@data.service nbdj@data.socket"))
     check("both are enabled", "enabled\nenabled", guest.asked("both", "systemctl is-enabled nbdj@data.service nbdj@data.socket"))
@@ -256,6 +285,15 @@ def kernel(machines):
     """Linux's client attaches the image: a file system, its trims, its check, by one connection and by four, and after a kill."""
     guest = machines.server
     guest.asked("attach", "modprobe nbd")
+    name, wanted = "kernel, long requests", "/sys/block/nbd0/queue/max_sectors_kb"
+    guest.asked(name, f"nbd-client -unix {SOCKET} /dev/nbd0")
+    told.append(f"max_sectors_kb {guest.asked(name, f'cat {wanted}')} of itself")
+    into = "dd if=/dev/zero of=/dev/nbd0 bs=4M count=2 oflag=direct conv=fsync"
+    guest.asked(name, f"echo 1024 >{wanted} && {into}")
+    # (one over the limit of a request is refused, and so the guide has the line)
+    guest.asked(name, f"echo 4096 >{wanted}")
+    check(f"{name}: one of 4 MiB", (1, True), (lambda status, said: (status, "Input/output error" in said))(*guest.run(into)))
+    guest.asked(name, "nbd-client -d /dev/nbd0")
     for connections in (1, 4):
         name = f"kernel, {connections} connections"
         guest.asked(name, f"nbd-client -unix {SOCKET} /dev/nbd0 -C {connections}")
@@ -265,7 +303,13 @@ def kernel(machines):
         guest.asked(name, "mkfs.ext4 -q -F /dev/nbd0")
         guest.asked(name, "mkdir -p /mnt/n && mount /dev/nbd0 /mnt/n")
         guest.asked(name, "for n in 1 2 3 4; do dd if=/dev/urandom of=/mnt/n/$n bs=1M count=16 conv=fsync status=none & done; wait; sha256sum /mnt/n/? >/root/sums")
-        guest.asked(name, "rm /mnt/n/1 && fstrim -v /mnt/n && umount /mnt/n")
+        guest.asked(name, "rm /mnt/n/1 && sync")
+        before = int(guest.asked(name, holes()))
+        guest.asked(name, "fstrim -v /mnt/n && umount /mnt/n")
+        # (the file system has written something too by then)
+        grown = int(guest.asked(name, holes())) - before
+        told.append(f"a trim made {grown / (1 << 20):.1f} MiB of holes")
+        check(f"{name}: a trim makes holes of a file of 16 MiB", True, grown > 12 << 20)
         guest.asked(name, "e2fsck -f -n /dev/nbd0")
         guest.asked(name, "nbd-client -d /dev/nbd0")
         guest.asked(name, "systemctl restart nbdj@data")
@@ -336,7 +380,28 @@ def standby(machines):
     guest.asked("standby", f"systemctl disable {unit}; systemctl start nbdj@data.socket")
 
 
-TRIALS = [installed, restarted, kernel, standby, power]
+def fresh(machines):
+    """A clone of the repository on a machine that has nothing but Debian: the demo, and parts of ./test."""
+    guest = machines.server
+    guest.asked("fresh", "apt-get update -qq && apt-get install -y -qq --no-install-recommends git xz-utils", 1200)
+    guest.asked("fresh", "git clone -q /root/brought/nbdj.bundle /root/nbdj", 600)
+    start = time.monotonic()
+    check("fresh: the demo", "The demo passed.", guest.asked("fresh", "cd /root/nbdj && ./demo", 600).split("\n")[-1])
+    told.append(f"the demo {time.monotonic() - start:.0f} s")
+    guest.asked("fresh", "cd /root/nbdj && tools/install-clients", 2400)
+    guest.asked("fresh", "modprobe -a nbd loop dm_mod fuse")
+    for part in PARTS:
+        start = time.monotonic()
+        said = guest.asked(f"fresh, {part}", f"cd /root/nbdj && NBDJ=$(tools/get-program) tests/{part} 2>&1", 7200)
+        counted = re.fullmatch(r"(\d+) passed, 0 failed", said.split("\n")[-1])
+        check(f"fresh, {part}: nothing fails", True, counted is not None and int(counted[1]) > 0)
+        for line in said.split("\n"):
+            if line.startswith("skipped: "):
+                print(f"  {part}: {line}", flush=True)
+        told.append(f"{part} {counted[1] if counted else 'no'} checks in {time.monotonic() - start:.0f} s")
+
+
+TRIALS = [installed, restarted, kernel, standby, power, fresh]
 
 
 def missing():
