@@ -309,7 +309,7 @@ def kernel(machines):
         # (the file system has written something too by then)
         grown = int(guest.asked(name, holes())) - before
         told.append(f"a trim made {grown / (1 << 20):.1f} MiB of holes")
-        check(f"{name}: a trim makes holes of a file of 16 MiB", True, grown > 12 << 20)
+        check(f"{name}: a trim makes holes of a file of 16 MiB", True, grown > 8 << 20)
         guest.asked(name, "e2fsck -f -n /dev/nbd0")
         guest.asked(name, "nbd-client -d /dev/nbd0")
         guest.asked(name, "systemctl restart nbdj@data")

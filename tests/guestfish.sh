@@ -83,7 +83,7 @@ debug sh "e2fsck -f -n /dev/sda"
 COMMANDS
 trimmed=$(($(awk '/hole/ { print $1 }' behind) - $(awk '/hole/ { print $1 }' before)))
 # (the file system has written something too by then)
-is 'a trim makes holes of the file that is gone' yes "$([ "$trimmed" -ge 25165824 ] && echo yes || echo "$trimmed bytes")"
+is 'a trim makes holes of the file that is gone' yes "$([ "$trimmed" -ge 16777216 ] && echo yes || echo "$trimmed bytes")"
 
 kill -TERM "$server"
 wait "$server"
@@ -92,7 +92,8 @@ serves "$@"
 {
     echo 'mount /dev/sda /'
     echo 'checksums-out sha256 /early output_sums'
-    for k in $(seq 300); do printf 'upload late/%s /late/%s\nsync\n!echo %s >>synced\n' "$k" "$k" "$k"; done
+    # (guestfish's own `sync` doesn't tell of a device that failed)
+    for k in $(seq 300); do printf 'upload late/%s /late/%s\ndebug sh "sync /sysroot/late/%s /sysroot/late"\n!echo %s >>synced\n' "$k" "$k" "$k" "$k"; done
 } >load
 : >synced
 (
