@@ -149,7 +149,8 @@ else
     done
     export LIBVIRT_DEFAULT_URI="qemu+unix:///system?socket=$folder/run/libvirt-sock"
     is 'libvirtd answers' 0 "$(quiet virsh version)"
-    serves --unix "$folder/socket" --unix-mode 0666
+    # Debian's libvirt runs QEMU as the user libvirt-qemu, with its groups. The socket is for a group, as that of the units is.
+    serves --unix "$folder/socket" --unix-mode 0660
     disk=$(sed -n '/^```xml$/,/^```$/p' "$page" | grep -v '^```' | sed "s,/run/nbdj-data/socket,$folder/socket,")
     is 'the page has the XML of a disk' yes "$(case $disk in "<disk "*"$folder/socket"*"</disk>") echo yes ;; esac)"
     cat >domain.xml <<XML
@@ -162,6 +163,10 @@ $disk
   </devices>
 </domain>
 XML
+    is 'libvirt, a socket of another group: define' 0 "$(quiet virsh define domain.xml)"
+    is 'libvirt, a socket of another group: start' 'Permission denied' "$(virsh start nbdj-test 2>&1 | grep -o 'Permission denied')"
+    is 'libvirt, a socket of another group: undefine' 0 "$(quiet virsh undefine nbdj-test)"
+    chgrp "$(id -G libvirt-qemu | cut -d ' ' -f 1)" socket
     for round in 1 2; do
         is "libvirt, $round: define" 0 "$(quiet virsh define domain.xml)"
         is "libvirt, $round: start" 0 "$(quiet virsh start nbdj-test)"
