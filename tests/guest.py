@@ -247,33 +247,52 @@ def installed(machines):
     check("both are active", "active\nactive", guest.asked("both", "systemctl is-active nbdj@data.service nbdj@data.socket"))
     check("both are enabled", "enabled\nenabled", guest.asked("both", "systemctl is-enabled nbdj@data.service nbdj@data.socket"))
     check("the socket", "srw-rw---- nbdj nbdj", guest.asked("the socket", f"stat -c '%A %U %G' {SOCKET}"))
-    check("its user", "nbdj nbdj", guest.asked("its user", "stat -c '%U %G' /proc/$(pidof nbdj)"))
-    check("its log", True, "listening" in guest.asked("its log", "journalctl -u nbdj@data -o cat"))
+    # (the unit is active before the program is)
+    guest.asked("its log", "for n in $(seq 60); do journalctl -u nbdj@data -o cat | grep -q ^listening && break; sleep 1; done; journalctl -u nbdj@data -o cat | grep ^listening")
+    check("its user", "nbdj nbdj", guest.asked("its user", "stat -c '%U %G' /proc/$(pidof nbdj || echo none)"))
     rated = guest.asked("its rating", "systemd-analyze security --no-pager nbdj@data.service | tail -n 1")
     told.append(re.search(r"exposure level.*?: (\S+ \S+)", rated)[1])
     check("others are refused", True, "Permission denied" in guest.run(f"runuser -u nobody -- {CLIENT} 0 --patience 1")[1])
 
 
+class Load:
+    """A client in a guest that writes and flushes until it is told to end, however often it has to connect anew."""
+
+    def __init__(self, guest, name, client):
+        self.guest, self.name, self.lines = guest, name, f"/root/{name}.lines"
+        guest.asked(name, f"rm -f /root/{name}.over; : >{self.lines}; systemd-run --unit={name} --property=RemainAfterExit=yes /bin/sh -c \"exec {client} 0 --until /root/{name}.over --timeout 60 >{self.lines} 2>&1\"")
+
+    def connected_anew(self):
+        return int(self.guest.run(f"grep -c 'goes on' {self.lines}")[1])
+
+    def goes_on(self, way, command):
+        """Under the load the command is carried out, after which the client has to have connected anew."""
+        before = self.connected_anew()
+        time.sleep(8)
+        self.guest.asked(self.name, command)
+        for _ in range(90):
+            time.sleep(1)
+            if self.connected_anew() > before:
+                break
+        check(f"{self.name}: {way}: the client goes on", True, self.connected_anew() > before)
+
+    def ends(self):
+        self.guest.asked(self.name, f"touch /root/{self.name}.over; while systemctl show -p SubState {self.name} | grep -q running; do sleep 1; done", 180)
+        check(f"{self.name}: its end", "ExecMainStatus=0", self.guest.run(f"systemctl show -p ExecMainStatus {self.name}")[1])
+        lines = self.guest.run(f"cat {self.lines}")[1]
+        check(f"{self.name}: nothing is lost", [], [it for it in lines.split("\n") if "BAD" in it])
+        told.append(lines.split("summary: ")[-1].split(" rounds")[0] + " rounds of 4 writes and a FLUSH")
+
+
 def restarted(machines):
     """Under load the service is restarted, stopped and killed, and clients start it anew by its socket."""
     guest = machines.server
-    guest.asked("load", f"rm -f /root/over; systemd-run --unit=load --property=RemainAfterExit=yes /bin/sh -c \"exec {CLIENT} 0 --until /root/over --timeout 60 >/root/load 2>&1\"")
+    load = Load(guest, "load", CLIENT)
     ways = ["systemctl restart nbdj@data", "systemctl stop nbdj@data", "systemctl kill --signal=KILL nbdj@data", "systemctl stop nbdj@data.socket nbdj@data; systemctl start nbdj@data.socket", "kill -9 $(pidof nbdj)"]
     for way in ways:
-        before = int(guest.run("grep -c 'goes on' /root/load")[1] or 0)
-        time.sleep(8)
-        guest.asked("restarts", way)
-        for _ in range(60):
-            time.sleep(1)
-            if int(guest.run("grep -c 'goes on' /root/load")[1] or 0) > before:
-                break
-        check(f"restarts: {way}: the client goes on", True, int(guest.run("grep -c 'goes on' /root/load")[1] or 0) > before)
-        check(f"restarts: {way}: it is active", "active", guest.run("systemctl is-active nbdj@data")[1])
-    guest.asked("load", "touch /root/over; while systemctl is-active load | grep -q '^active' && ! systemctl show -p SubState load | grep -q exited; do sleep 1; done", 120)
-    check("load: its end", "ExecMainStatus=0", guest.run("systemctl show -p ExecMainStatus load")[1])
-    lines = guest.run("cat /root/load")[1]
-    check("load: nothing is lost", False, "BAD" in lines)
-    told.append(lines.split("summary: ")[-1].split(" rounds")[0] + " rounds of 4 writes and a FLUSH")
+        load.goes_on(way, way)
+        check(f"load: {way}: it is active", "active", guest.run("systemctl is-active nbdj@data")[1])
+    load.ends()
     # What a stop stores was answered, and no FLUSH has come.
     at = f"import nbd; h = nbd.NBD(); h.connect_uri('nbd+unix:///?socket={SOCKET}')"
     guest.asked("a stop", f"python3 -c \"{at}; h.pwrite(b'q' * 4096, 100 << 20); import subprocess; subprocess.run(['systemctl', 'stop', 'nbdj@data'], check=True)\"")
@@ -343,7 +362,8 @@ def power(machines):
         check(f"{name}: records are confirmed", True, peer.progressed(before + 40 * number, 120))
         guest.cut()
         confirmed = peer.progress()
-        peer.asked(name, f"systemctl stop writes; umount -l /mnt/n; nbd-client -d /dev/nbd{number - 1}; sleep 2")
+        # (the kernel's request that has got no answer waits until the device is let go)
+        peer.asked(name, f"nbd-client -d /dev/nbd{number - 1}; systemctl stop writes; umount -l /mnt/n; sleep 2")
         took = guest.start()
         confirmed = max(confirmed, peer.progress())
         check(f"{name}: it is active again", "active", guest.run("systemctl is-active nbdj@data")[1])
@@ -368,12 +388,12 @@ def standby(machines):
     await_held = f"for n in $(seq 100); do {held} >/dev/null && break; sleep 0.2; done; {held}"
     check("standby: it has the address", "1", guest.run(await_held)[1])
     client = CLIENT.replace(f"nbd+unix:///?socket={SOCKET}", "nbd://192.0.2.10")
-    guest.asked("standby", f"{client} 3")
-    guest.asked("standby", "kill -9 $(pidof nbdj); sleep 2")
+    load = Load(guest, "callers", client)
+    load.goes_on("a kill", "kill -9 $(pidof nbdj)")
     check("standby: it has the address after a kill", "1", guest.run(await_held)[1])
-    guest.asked("standby", f"{client} 1")
-    guest.asked("standby", f"systemctl kill --signal=KILL {unit}; sleep 4")
+    load.goes_on("a kill of all", f"systemctl kill --signal=KILL {unit}")
     check("standby: it has the address after a kill of all", "1", guest.run(await_held)[1])
+    load.ends()
     guest.asked("standby", f"systemctl stop {unit}")
     check("standby: the address is given back", "0", guest.run(held)[1])
     told.append(re.search(r"exposure level.*?: (\S+ \S+)", guest.asked("standby", f"systemd-analyze security --no-pager {unit}.service | tail -n 1"))[1])
