@@ -48,7 +48,7 @@ SOCKET = "/run/nbdj-data/socket"
 CLIENT = f"python3 /usr/local/lib/client.py 'nbd+unix:///?socket={SOCKET}'"
 CACHE = os.environ.get("CACHE")
 # The parts of ./test that a guest runs: what the program does in the kernel of a whole machine. All of it would take hours without KVM.
-PARTS = ["release.sh", "devices.sh", "clients.sh", "standby.sh"]
+PARTS = ["release.sh", "devices.sh", "standby.sh", "clients.sh"]
 passed, failed = 0, 0
 # What a trial tells beside its time.
 told = []
@@ -359,7 +359,7 @@ def power(machines):
         name = f"power cut {number}"
         before = peer.progress()
         peer.asked(name, "systemd-run --collect --unit=writes python3 /usr/local/lib/records.py write /mnt/n/records /dev/virtio-ports/progress")
-        check(f"{name}: records are confirmed", True, peer.progressed(before + 40 * number, 120))
+        check(f"{name}: records are confirmed", True, peer.progressed(before + 40 * number, 600))
         guest.cut()
         confirmed = peer.progress()
         # (the kernel's request that has got no answer waits until the device is let go)
@@ -403,12 +403,13 @@ def standby(machines):
 def fresh(machines):
     """A clone of the repository on a machine that has nothing but Debian: the demo, and parts of ./test."""
     guest = machines.server
-    guest.asked("fresh", "apt-get update -qq && apt-get install -y -qq --no-install-recommends git xz-utils", 1200)
+    # (the clients are those of `PARTS` alone: all of tools/install-clients takes longer than what it serves)
+    guest.asked("fresh", "echo force-unsafe-io >/etc/dpkg/dpkg.cfg.d/fresh; apt-get update -qq", 600)
+    guest.asked("fresh", "DEBIAN_FRONTEND=noninteractive apt-get install -y -qq --no-install-recommends git xz-utils dmsetup fdisk libnbd-bin qemu-utils procps psmisc", 2400)
     guest.asked("fresh", "git clone -q /root/brought/nbdj.bundle /root/nbdj", 600)
     start = time.monotonic()
     check("fresh: the demo", "The demo passed.", guest.asked("fresh", "cd /root/nbdj && ./demo", 600).split("\n")[-1])
     told.append(f"the demo {time.monotonic() - start:.0f} s")
-    guest.asked("fresh", "cd /root/nbdj && tools/install-clients", 2400)
     guest.asked("fresh", "modprobe -a nbd loop dm_mod fuse")
     for part in PARTS:
         start = time.monotonic()
