@@ -230,7 +230,7 @@ class Machines:
 
 
 def installed(machines):
-    """The guest boots, apt installs the package, and an image is served as docs/SERVING.md says."""
+    """The guest boots, apt installs the package, and an image is served as docs/GUIDE.md says."""
     guest = machines.server
     took = guest.start()
     told.append(f"booted in {took:.0f} s, {guest.run('uname -r')[1]}")

@@ -1,5 +1,5 @@
 #!/bin/sh
-# The virtual machines of docs/SERVING.md, "Virtual machines": QEMU by both of its command lines, and a domain of libvirt with the XML of the
+# The virtual machines of docs/GUIDE.md, "Attach it": QEMU by both of its command lines, and a domain of libvirt with the XML of the
 # page, over a served image. The machine starts from the image, reads its second sector and writes that to its ninth. NBDJ names the program.
 #
 # usage: tests/libvirt.sh
@@ -28,7 +28,7 @@ if [ -n "$lacks" ]; then
     echo "skipped: $lacks"
     exit 0
 fi
-page=$here/docs/SERVING.md
+page=$here/docs/GUIDE.md
 # (libvirt's machine runs as a user of its own, which has to reach the socket)
 chmod 755 "$folder"
 
