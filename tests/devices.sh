@@ -97,14 +97,20 @@ shared() {
     is 'a device that was held' 'commands 0' "$("$NBDJ" recover "$3")"
 }
 
+# settled: waits for udev, which reads a device that was open for writing once it is closed, and holds a lock on it meanwhile
+settled() { ! command -v udevadm >/dev/null || udevadm settle --timeout=20 >/dev/null 2>&1 || :; }
+
 # refuses NAME PATH CONTENT: a format by size tells what is there and leaves it; with --force it replaces it
 refuses() {
     cp "$2" before.img
+    settled
     timeout 20 "$NBDJ" format "$2" --size 1M --area 2M <input >output 2>errors
     is "$1" "1||nbdj: $2 holds data, which --force replaces" "$?|$(cat output)|$(cat errors)"
+    settled
     timeout 20 "$NBDJ" format "$2" --size 1M --area 2M -v <input >output 2>errors
     is "$1: why" "1||nbdj: $2: it has $3|nbdj: $2 holds data, which --force replaces" "$?|$(cat output)|$(paste -s -d '|' errors)"
     is "$1: what was there" '' "$(cmp "$2" before.img 2>&1)"
+    settled
     is "$1, which is replaced" '0|formatted 5259264' "$(timeout 20 "$NBDJ" format "$2" --size 1M --area 2M --force 2>&1 >output; echo "$?|$(cat output)")"
 }
 

@@ -51,7 +51,7 @@ CLIENT = f"python3 /usr/local/lib/client.py 'nbd+unix:///?socket={SOCKET}'"
 CACHE = os.environ.get("CACHE")
 # The parts of ./test that a guest runs: what the program does in the kernel of a whole machine. All of it would take hours without KVM, and
 # release.sh wants the demo to take at most five seconds.
-PARTS = ["streams.sh", "devices.sh", "standby.sh", "clients.sh"]
+PARTS = ["streams.sh", "devices.sh", "clients.sh"]
 passed, failed = 0, 0
 # What a trial tells beside its time.
 told = []
