@@ -51,7 +51,7 @@ CLIENT = f"python3 /usr/local/lib/client.py 'nbd+unix:///?socket={SOCKET}'"
 CACHE = os.environ.get("CACHE")
 # The parts of ./test that a guest runs: what the program does in the kernel of a whole machine. All of it would take hours without KVM, and
 # release.sh wants the demo to take at most five seconds.
-PARTS = ["streams.sh", "devices.sh", "clients.sh"]
+PARTS = ["streams.sh", "devices.sh"]
 passed, failed = 0, 0
 # What a trial tells beside its time.
 told = []
@@ -406,9 +406,9 @@ def standby(machines):
 def fresh(machines):
     """A clone of the repository on a machine that has nothing but Debian: the demo, and parts of ./test."""
     guest = machines.server
-    # (the clients are those of `PARTS` alone: all of tools/install-clients takes longer than what it serves)
+    # (what the demo and `PARTS` need, and not all of tools/install-clients, which takes long)
     guest.asked("fresh", "echo force-unsafe-io >/etc/dpkg/dpkg.cfg.d/fresh; apt-get update -qq", 600)
-    guest.asked("fresh", "DEBIAN_FRONTEND=noninteractive apt-get install -y -qq --no-install-recommends git xz-utils dmsetup fdisk libnbd-bin qemu-utils procps psmisc", 2400)
+    guest.asked("fresh", "DEBIAN_FRONTEND=noninteractive apt-get install -y -qq --no-install-recommends git xz-utils dmsetup fdisk libnbd-bin procps psmisc", 2400)
     guest.asked("fresh", "git clone -q /root/brought/nbdj.bundle /root/nbdj", 600)
     start = time.monotonic()
     check("fresh: the demo", "The demo passed.", guest.asked("fresh", "cd /root/nbdj && ./demo", 600).split("\n")[-1])
