@@ -132,6 +132,7 @@ class Guest:
             with socket.socket() as probe:
                 probe.bind(("127.0.0.1", 0))
                 self.forward = probe.getsockname()[1]
+        # (with `-cpu max` under QEMU 7.2, which then has AVX, the guest's mounts failed and no network came up)
         self.process = subprocess.Popen([
             "qemu-system-x86_64", "-nodefaults", "-display", "none", "-no-reboot", "-machine", "q35", "-accel", "tcg,thread=multi", "-cpu", "Nehalem", "-smp", "2", "-m", "1024",
             "-kernel", f"{self.made}/vmlinuz", "-initrd", f"{self.made}/initrd.img", "-append", "root=/dev/vda rw console=ttyS0 mitigations=off systemd.getty_auto=no",
