@@ -266,12 +266,12 @@ def works(server, own, source):
 
 def eight(folder):
     """Eight clients at once over areas so small that checkpoints go on all the time, in both layouts: each reads what it wrote, and what it wrote
-    is stored."""
+    is stored. Nothing is stored after an interval, so several FLUSHes that wait have to see to it."""
     for name, made in (("eight", []), ("eight, layout 2", ["--layout", "2"])):
         image = os.path.join(folder, f"{name}.img")
         area = "4194304" if made else "2097152"
         subprocess.run([NBDJ, "format", image, "--blocks", str(hostile.BLOCKS), "--area", area, *made], check=True, stdout=subprocess.DEVNULL, timeout=60)
-        with Server(folder, name, 8, "--sessions", "8", made=True) as server:
+        with Server(folder, name, 8, "--sessions", "8", "--flush-interval", "0", made=True) as server:
             with ThreadPoolExecutor(8) as pool:
                 images = list(pool.map(lambda own: works(server, own, random.Random(own)), range(8)))
             check(f"{name}: the end", (0, ""), ended(server))
