@@ -38,9 +38,9 @@ abbrev pub AreAll : List Call → List Event → Type 0
 AreAll [] log = Unit {0}
 AreAll (call ∷ calls) log = (events_of call.by log ≡ call.events) × AreAll calls log
 
--- There is one log, which agrees with the order of commands, and all that it covers is among the first so many of these. Of each client
--- that is gone it has just what that sent and was answered, and nothing of one that wasn't made. Where the device is trusted what is
--- read and what edits become fits the order.
+-- There is one log, which agrees with the order of commands. All that it covers is among the first `durable` commands. For each client
+-- that is gone it has exactly what that client sent and was answered, and for a client that was never made it has nothing. If the
+-- device is trusted, what READs show and what edits become fit the order.
 pub record IsOneLog (trusted : Type 0) (mode : Mode) (image : Image) (order : List Change) (durable : ℕ) (roster : RosterState) : Type 0 where
   pub log : List Event
   pub paired : ℕ → ℕ

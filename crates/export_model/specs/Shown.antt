@@ -21,7 +21,7 @@ read_status_of Data = 0
 read_status_of Zero = 3
 read_status_of Hole = 3
 
--- so many bytes of an image, from one on
+-- `count` bytes of an image, starting at `place`
 unfoldable pub bytes_from : Image → ℕ → ℕ → List ℕ
 bytes_from image place zero = []
 bytes_from image place (suc count) = image.byte place ∷ bytes_from image (place + 1) count
@@ -33,27 +33,27 @@ with_block given (run ∷ runs) =
     if run.status == given then record { length = run.length + 4096; status = given } ∷ runs
     else record { length = 4096; status = given } ∷ run ∷ runs
 
--- the longest runs of one status, of so many blocks from one on
+-- the longest runs of one status, over `count` blocks starting at `block`
 unfoldable pub runs_from : (ℕ → ℕ) → ℕ → ℕ → List Run
 runs_from status block zero = []
 runs_from status block (suc count) = with_block (status block) (runs_from status (block + 1) count)
 
--- runs without so many bytes at their front, which are fewer than the first of them has
+-- runs without their first `count` bytes; the first run has more bytes than that
 abbrev pub cut_front : ℕ → List Run → List Run
 cut_front count [] = []
 cut_front count (run ∷ runs) = record run { length = run.length - count } ∷ runs
 
--- runs up to so many bytes, of which there is one at least
+-- the first `count` bytes of runs; `count` is at least 1
 unfoldable pub cut_behind : ℕ → List Run → List Run
 cut_behind count [] = []
 cut_behind count (run ∷ runs) =
     if nat_le count run.length then record run { length = count } ∷ [] else run ∷ cut_behind (count - run.length) runs
 
--- the runs of blocks from that of the offset on, cut to so many bytes from there on
+-- the runs of blocks from the offset's block on, cut to the `count` bytes from the offset on
 abbrev pub cut_to : ℕ → ℕ → List Run → List Run
 cut_to offset count runs = cut_behind count (cut_front (offset % 4096) runs)
 
--- the runs of the blocks that so many bytes from the offset on touch
+-- the runs of the blocks that the `count` bytes from the offset on touch
 abbrev pub runs_met : (ℕ → ℕ) → ℕ → ℕ → List Run
 runs_met status offset count = runs_from status (offset / 4096) (blocks_met offset count)
 

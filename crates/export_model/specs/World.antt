@@ -69,7 +69,7 @@ pub record World : Type 0 where
   pub shown : ℕ → ℕ
   pub connections : ℕ → Connection
 
--- the image after the first so many commands of an order
+-- the image after the first `count` commands of an order
 abbrev pub image_after : List Change → ℕ → Image → Image
 image_after order count image = apply_all (take count order) image
 
@@ -111,7 +111,7 @@ last_number world = world.stage.setting.opening + length world.stage.order
 abbrev pub in_hand : World → List Change
 in_hand world = take (world.stage.sealed - world.stage.stored) (drop world.stage.stored world.stage.order)
 
--- the blocks whose last touch by the commands behind the first so many is a write, each with the number of that write
+-- the blocks whose last touch by the commands after the first `count` is a write, each with the number of that write
 abbrev pub dirty_behind : ℕ → Stage → Dirty
 dirty_behind count stage = dirty_blocks (stage.setting.opening + count) (drop count stage.order)
 

@@ -276,8 +276,8 @@ impl<B: BoardName, T: Trust> Board<B, T> {
         self.lift_base(&mut keeper.seat, base);
     }
 
-    /// The durable number is raised to the keeper's count, the number of the last command stored, where the seat sees that so
-    /// many were accepted.
+    /// The durable number is raised to the keeper's count, the number of the last command stored, if the seat sees that the accepted
+    /// number has reached it.
     pub fn raise_durable<D: Disk>(&self, seat: &mut KeeperSeat<B>, keeper: &Keeper<D>)
         ensures looked { seat.old.accepted ≤ seat.new.accepted }
         ensures seen { IsPrefix seat.old.history seat.new.history }
@@ -293,7 +293,7 @@ impl<B: BoardName, T: Trust> Board<B, T> {
         }
     }
 
-    // So many passes that know what the keeper's seat knows.
+    // `count` passes that know what the keeper's seat knows.
     pub(crate) fn new_passes(
         &self,
         alloc: Global,

@@ -241,7 +241,7 @@ module _ (trusted : Type 0) where
           let there = pair_within world sound k (omega (arith, below, most)) in
           omega (arith, there, last.at)
 
-  -- no command behind a count changes the image after so many
+  -- no later command changes the image after the first `count` commands
   pub image_same : (count : ℕ) (order more : List Change) (image : Image) → count ≤ length order → image_after (order ++ more) count image ≡ image_after order count image
   image_same count order more image within = ap (λ (l : List Change). apply_all l image) (take-append-le count order more within)
 
@@ -293,7 +293,7 @@ module _ (trusted : Type 0) where
           subst (λ (p : ℕ). p < is.answer) (sym (old_pair k (omega (arith, below, most)))) (fit.before place is k below);
     }
 
-  -- an open request is answered with what the image shows after the first so many commands
+  -- an open request is answered with what the image shows after the first `count` commands
   module _ (world : World) (c : ℕ) (request : Message) (count : ℕ) (most : count ≤ length world.stage.order) (is_open : IsOpen world.log c (world.places c) request)
       (asks : world.connections c ≡ Requested request) where
     abbrev now : World

@@ -261,7 +261,7 @@ reads_fit trusted world good t = record {
   rising = λ place later is also before. (good.fits.answered later also).rising place is before;
 }
 
--- what may be answered with so many durable may be with more
+-- an answer that is allowed for one durable number is allowed for a greater one
 pub may_more : (trusted : Type 0) (image : Image) (durable more : ℕ) (seen : List Change) (state : Connection) (outcome : Answer) → durable ≤ more → MayAnswer trusted image durable seen state outcome → MayAnswer trusted image more seen state outcome
 may_more trusted image durable more seen Idle outcome le may = may
 may_more trusted image durable more seen Closed outcome le may = may
