@@ -1,5 +1,7 @@
 mod Begun
+mod Beginning
 mod Bounded
+mod Clients
 mod Fits
 mod Found
 mod Given

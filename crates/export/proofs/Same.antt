@@ -1,6 +1,6 @@
 -- What is said of one request and one pass is said of equal ones.
 use Rattle.std.proofs.Common.{◌≡◌, ℕ, subst}
-use Rattle.export.specs.inner.Submits.{IsServedFor}
+use Rattle.export.specs.inner.Submits.{IsClientFor, IsServedFor}
 use Rattle.export_model.specs.declared.step.Mode.{Mode}
 use Rattle.image_model.specs.Image.{Image}
 use Rattle.marks.specs.Known.{PassState}
@@ -13,3 +13,7 @@ served_same opening first Sure kept new request other pass old result given aske
     subst (λ (r : Message). IsServedFor opening first Sure r kept pass new result) asked
     (subst (λ (p : PassState). IsServedFor opening first Sure other kept p new result) began
     (subst (λ (s : Served). IsServedFor opening first Sure other kept old new s) answered is))
+
+-- what its client may be answered, too
+pub client_same : (logs trusted : Type 0) (image : Image) (new : PassState) (pass old : PassState) (result : Served) → old ≡ pass → IsClientFor logs trusted image old new result → IsClientFor logs trusted image pass new result
+client_same logs trusted image new pass old result began is = subst (λ (p : PassState). IsClientFor logs trusted image p new result) began is

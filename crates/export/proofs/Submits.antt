@@ -40,13 +40,13 @@ use Rattle.export.proofs.Lists.{last_same}
 use Rattle.export.specs.Submits.{IsAccepted, IsSubmitted}
 use Rattle.export.specs.inner.Submits.{IsServedFor, IsWaitedFor}
 
-write_flushes_none : (kind : ℕ) → is_write_type kind ≡ true → (kind == 3) ≡ false
+pub write_flushes_none : (kind : ℕ) → is_write_type kind ≡ true → (kind == 3) ≡ false
 write_flushes_none kind write = grind (arith, nat_tests)
 
 pub refused_undone : (errno : Errno) → Refused errno ≢ Done
 refused_undone errno is = cc
 
-shown_undone : (image : Image) (head : RequestHead) → shown_by image head ≢ Done
+pub shown_undone : (image : Image) (head : RequestHead) → shown_by image head ≢ Done
 shown_undone image head = by (head.kind == 0) _ _
   where
     by : (b : Bool) (read : BytesRead) (runs : List Run) → (if b then Bytes read else States runs) ≢ Done
@@ -60,7 +60,7 @@ leaves opening number (Refused errno) pass next undone is = is
 leaves opening number (Bytes read) pass next undone is = is
 leaves opening number (States runs) pass next undone is = is
 
-no_less : (number : ℕ) → nat_lt number number ≡ false
+pub no_less : (number : ℕ) → nat_lt number number ≡ false
 no_less number = grind (arith, nat_tests)
 
 -- who has a command accepted knows what it knew, and that
@@ -77,7 +77,7 @@ module _ (opening : ℕ) (first : Image) (Sure : Type 0 → Type 0) (request : M
   pub unanswered : (cookie : ℕ) (answer : Answer) (result : Served) → answer ≢ Done → next ≡ pass → result ≡ ready_for cookie answer → IsServedFor opening first Sure request kept pass next result
   unanswered cookie answer result undone left is =
       subst (λ (r : Served). IsServedFor opening first Sure request kept pass next r) (sym is)
-      (record { knew = subst (λ (p : PassState). IsPrefix pass.history p.history) (sym left) (prefix_self pass.history); written = λ done. absurd (undone done); ordered = λ done. absurd (undone done); flushed = λ done. absurd (undone done); covered = λ done. absurd (undone done); refused = λ errno is_errno other. left; own = inl (ap (λ (p : PassState). p.own) left); lasts = let same = ap (λ (p : PassState). p.durable) left in omega (arith, same) })
+      (record { knew = subst (λ (p : PassState). IsPrefix pass.history p.history) (sym left) (prefix_self pass.history); written = λ done. absurd (undone done); ordered = λ done. absurd (undone done); flushed = λ done. absurd (undone done); covered = λ done. absurd (undone done); refused = λ errno is_errno other. subst (λ (p : PassState). p ≡ record pass { history = p.history; accepted = p.accepted; client = p.client }) (sym left) refl; own = inl (ap (λ (p : PassState). p.own) left); lasts = let same = ap (λ (p : PassState). p.durable) left in omega (arith, same) })
 
 -- what a request comes to of a board that opened with this number
 module _ (opening : ℕ) (first : Image) (Sure : Type 0 → Type 0) (sure : (P Q : Type 0) → (P → Q) → Sure P → Sure Q) (request : Message) (kept : Mode) (pass next : PassState) where

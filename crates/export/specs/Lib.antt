@@ -1,3 +1,4 @@
+pub mod Clients
 pub mod Left
 pub mod Noted
 pub mod Opened

@@ -38,7 +38,7 @@ pub record IsCovered (opening : ℕ) (old new : PassState) : Type 0 where
 
 -- A write command that is answered Ok has a number above all that its pass knew, and it is durable where the answer waits for that.
 -- A FLUSH that is answered Ok: all that its pass knew before is ordered, and durable where a FLUSH waits, whichever connection's it
--- was. An error other than EIO leaves the pass as it was. Whatever the answer is, the pass has the commands that it had or the request's more, the history
+-- was. An error other than EIO leaves the pass as it was, but for the history that it saw as its client sent the request. Whatever the answer is, the pass has the commands that it had or the request's more, the history
 -- that it knows then begins with the one that it knew, and all is durable still that it knew to be.
 pub record IsSubmitted (opening : ℕ) (first : Image) (Sure : Type 0 → Type 0) (request : Message) (kept : Mode) (old new : PassState) (answer : Answer) : Type 0 where
   pub knew : IsPrefix old.history new.history
@@ -47,7 +47,7 @@ pub record IsSubmitted (opening : ℕ) (first : Image) (Sure : Type 0 → Type 0
   pub ordered : answer ≡ Done → is_flush request ≡ true → known old ≤ opening + length new.history
   pub flushed : answer ≡ Done → is_flush request ≡ true → flush_waits kept ≡ true → known old ≤ new.durable
   pub covered : answer ≡ Done → is_flush request ≡ true → flush_waits kept ≡ true → IsCovered opening old new
-  pub refused : (errno : Errno) → answer ≡ Refused errno → errno ≢ Io → new ≡ old
+  pub refused : (errno : Errno) → answer ≡ Refused errno → errno ≢ Io → new ≡ record old { history = new.history; accepted = new.accepted; client = new.client }
   pub own : (new.own ≡ old.own) ⊎ ((is_write request ≡ true) × (number : ℕ) × IsAccepted opening first Sure request number old new)
 
 -- The answers to a request on which this is the verdict: its error; else EIO, an error of want that its type may meet, Done to a

@@ -6,6 +6,7 @@ use crate::storage_engine::{CopyStep, StorageEngine};
 use crate::sync_points::{Point, SyncPoints};
 use checkpoint::KeeperFault;
 use disk_model::Disk;
+use marks::Trust;
 use std::rt::Clock;
 use std::sync::Wait;
 use std::time::{Duration, Instant};
@@ -66,7 +67,7 @@ impl Progress {
     }
 }
 
-impl<B: ExportName, D: Disk, H: ReadBeside> Export<B, D, H> {
+impl<B: ExportName, D: Disk, H: ReadBeside, T: Trust> Export<B, D, H, T> {
     /// Copies the journal into the image, step by step, before it is full or no frame is left. Each step is one hold of the
     /// keeper's lock, and groups are stored between two.
     ///

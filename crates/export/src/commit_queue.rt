@@ -3,7 +3,7 @@ ghost use Rattle.std.specs.Prelude.{ℕ, List, ◌≡◌, ◌≢◌, ◌+◌, �
 ghost use mathlib.Core.List.{IsPrefix};
 ghost use Rattle.disk_model.specs.Disk.{MayLeave};
 ghost use Rattle.export.specs.Noted.{base_of};
-ghost use Rattle.export.specs.inner.Submits.{FitsServed, IsServedFor, IsShownFor, serves_image};
+ghost use Rattle.export.specs.inner.Submits.{FitsServed, IsClientFor, IsServedFor, IsShownFor, serves_image};
 ghost use Rattle.export_model.specs.Log.{is_write};
 ghost use Rattle.image_model.specs.Edit.{blocks_met};
 ghost use Rattle.image_model.specs.Image.{apply_all};
@@ -12,6 +12,7 @@ ghost use Rattle.request_core.specs.Reading.{IsPlanned, IsReadOverServed};
 ghost use Rattle.regions.specs.Layout.{block_at};
 ghost use Rattle.shared_store.specs.Keepers.{HasLeft};
 ghost use Rattle.shared_store.specs.Answers.{ServesImage};
+ghost use Rattle.shared_store.specs.Logs.{IsAt, IsLogOf};
 ghost use Rattle.shared_store.specs.Orders.{SpanRead, Trusting};
 ghost use Rattle.shared_store.specs.Parts.{StandsWithin};
 
@@ -24,7 +25,7 @@ use crate::settling::FlushInterval;
 use crate::storage_engine::{JournalUse, StorageEngine};
 use crate::throttling::Throttle;
 use disk_model::Disk;
-use marks::{Board, Pass};
+use marks::{Board, Pass, Trust};
 use nbd_wire::{Answer, Request, RequestHead, TRIM, WRITE, WRITE_ZEROES};
 use order_book::{OrderFault, Span};
 use request_core::{Blocks, NeedsKeeper, Served, Terms, plan_read};
@@ -134,9 +135,9 @@ fn serves_image(served: &Served) -> bool
 }
 
 // Shows the history to a pass for which bytes or states were served: they are those of the image after it.
-fn show<B: ExportName>(
+fn show<B: ExportName, T: Trust>(
     order: &mut SharedOrder<B>,
-    board: &Board<B>,
+    board: &Board<B, T>,
     pass: &mut Pass<B>,
     served: &Served,
 )
@@ -185,17 +186,20 @@ impl<B: ExportName> CommitQueue<B> {
     }
 
     /// Serves a request that isn't a DISC, as far as no keeper is needed.
-    pub(crate) fn serve(
+    pub(crate) fn serve<T: Trust>(
         &mut self,
         alloc: Global,
         request: Request,
-        board: &Board<B>,
+        board: &Board<B, T>,
         pass: &mut Pass<B>,
         terms: Terms,
     ) -> Result<Served, NeedsKeeper>
         requires kind { request.head.kind ≢ 2 }
         requires geometry { terms.geometry ≡ B.geometry }
+        requires log { T.logs → IsLogOf B.opening B.image B.vouches B.trusted terms.mode T.trusted T.mode T.image }
+        requires asked { T.logs → IsAt request pass.old.client }
         ensures served { IfOk result (λ served. IsServedFor B.opening B.image (Trusting B.opening B.image B.vouches B.trusted) request terms.mode pass.old pass.new served) }
+        ensures client { IfOk result (λ served. IsClientFor T.logs T.trusted T.image pass.old pass.new served) }
         ensures fits { IfOk result (λ served. FitsServed terms.geometry terms.flags request served) }
         ensures handed_back { IfErr result (λ back. back.0 ≡ request) }
         ensures unchanged { OnErr result (pass.new ≡ pass.old) }
@@ -239,14 +243,14 @@ impl<B: ExportName> CommitQueue<B> {
     /// same, no command after it has touched a block that is data now and isn't in memory: if the last such command had cleared the
     /// block it would be no data, and if it had written the block its frame would be dirty until a clean. So the block is as at that
     /// base; and a checkpoint writes only the places of blocks that a command after the base writes.
-    pub(crate) fn serve_over<H: ReadBeside>(
+    pub(crate) fn serve_over<H: ReadBeside, T: Trust>(
         &mut self,
         alloc: Global,
         handle: &H,
         request: &Request,
         planned: Planned,
         bytes: Vec<u8>,
-        board: &Board<B>,
+        board: &Board<B, T>,
         pass: &mut Pass<B>,
         terms: &Terms,
     ) -> Result<Served, Vec<u8>>
@@ -256,7 +260,10 @@ impl<B: ExportName> CommitQueue<B> {
         requires given { H.gives handle.now (base_of planned.settled) (block_at terms.now.geometry planned.span.first)
             (slice_range bytes.items (4096 * (planned.span.first - request.now.head.offset / 4096)) (4096 * (planned.span.end - request.now.head.offset / 4096))) }
         requires size { vec_len bytes ≡ 4096 * blocks_met request.now.head.offset request.now.head.length }
+        requires log { T.logs → IsLogOf B.opening B.image B.vouches B.trusted terms.now.mode T.trusted T.mode T.image }
+        requires asked { T.logs → IsAt request.now pass.old.client }
         ensures served { IfOk result (λ served. IsServedFor B.opening B.image (Trusting B.opening B.image B.vouches B.trusted) request.now terms.now.mode pass.old pass.new served) }
+        ensures client { IfOk result (λ served. IsClientFor T.logs T.trusted T.image pass.old pass.new served) }
         ensures tells { IfOk result (λ served. Trusting B.opening B.image B.vouches B.trusted (ServesImage (apply_all pass.new.history B.image) request.now.head served)) }
         ensures fits { IfOk result (λ served. FitsServed terms.now.geometry terms.now.flags request.now served) }
         ensures size { IfErr result (λ back. vec_len back ≡ 4096 * blocks_met request.now.head.offset request.now.head.length) }
@@ -296,19 +303,22 @@ impl<B: ExportName> CommitQueue<B> {
     }
 
     /// Serves a request that isn't a DISC, with the keeper.
-    pub(crate) fn serve_with<D: Disk>(
+    pub(crate) fn serve_with<D: Disk, T: Trust>(
         &mut self,
         alloc: Global,
         request: Request,
         keeper: &mut SharedKeeper<B, D>,
-        board: &Board<B>,
+        board: &Board<B, T>,
         pass: &mut Pass<B>,
         terms: Terms,
     ) -> Served
         requires kind { request.head.kind ≢ 2 }
         requires geometry { terms.geometry ≡ B.geometry }
         requires device { keeper.old.keeper.geometry ≡ B.geometry }
+        requires log { T.logs → IsLogOf B.opening B.image B.vouches B.trusted terms.mode T.trusted T.mode T.image }
+        requires asked { T.logs → IsAt request pass.old.client }
         ensures served { IsServedFor B.opening B.image (Trusting B.opening B.image B.vouches B.trusted) request terms.mode pass.old pass.new result }
+        ensures client { IsClientFor T.logs T.trusted T.image pass.old pass.new result }
         ensures fits { FitsServed terms.geometry terms.flags request result }
         ensures geometry { keeper.new.keeper.geometry ≡ keeper.old.keeper.geometry }
         ensures count { keeper.new.keeper.count ≡ keeper.old.keeper.count }
@@ -643,9 +653,9 @@ impl<B: ExportName> CommitQueue<B> {
     }
 
     /// Takes the longest beginning of what is pending as a group, at this moment.
-    pub(crate) fn seal(
+    pub(crate) fn seal<T: Trust>(
         &mut self,
-        board: &Board<B>,
+        board: &Board<B, T>,
         now: Option<Instant>,
     ) -> Result<Option<SealedGroup<B>>, OrderFault>
         ensures settled { self.new.settled ≡ self.old.settled }
@@ -664,7 +674,7 @@ impl<B: ExportName> CommitQueue<B> {
     }
 
     /// Makes a group pending again, which the flusher is to store.
-    pub(crate) fn put_back(&mut self, board: &Board<B>, sealed: SealedGroup<B>)
+    pub(crate) fn put_back<T: Trust>(&mut self, board: &Board<B, T>, sealed: SealedGroup<B>)
         ensures settled { self.new.settled ≡ self.old.settled }
         ensures limit { self.new.most_pending ≡ self.old.most_pending }
     {
@@ -678,7 +688,7 @@ impl<B: ExportName> CommitQueue<B> {
     }
 
     /// Makes a group pending again, which the area had no room for, and wants a checkpoint.
-    pub(crate) fn take_back(&mut self, board: &Board<B>, sealed: SealedGroup<B>)
+    pub(crate) fn take_back<T: Trust>(&mut self, board: &Board<B, T>, sealed: SealedGroup<B>)
         ensures settled { self.new.settled ≡ self.old.settled }
         ensures limit { self.new.most_pending ≡ self.old.most_pending }
     {
@@ -701,9 +711,9 @@ impl<B: ExportName> CommitQueue<B> {
     }
 
     /// Makes durable what is stored; whether a checkpoint is wanted then.
-    pub(crate) fn publish<D: Disk>(
+    pub(crate) fn publish<D: Disk, T: Trust>(
         &mut self,
-        board: &Board<B>,
+        board: &Board<B, T>,
         engine: &mut StorageEngine<B, D>,
     ) -> bool
         ensures settled { self.new.settled ≡ self.old.settled }
@@ -723,9 +733,9 @@ impl<B: ExportName> CommitQueue<B> {
     }
 
     /// Keeper and pass meet the order, and gives the number of the last command that was accepted.
-    pub(crate) fn meet_all<D: Disk>(
+    pub(crate) fn meet_all<D: Disk, T: Trust>(
         &mut self,
-        board: &Board<B>,
+        board: &Board<B, T>,
         keeper: &mut SharedKeeper<B, D>,
         pass: &mut Pass<B>,
     ) -> u64
@@ -744,7 +754,11 @@ impl<B: ExportName> CommitQueue<B> {
 
     /// Lets go of the frames whose blocks the image holds. A checkpoint that was wanted is done, and is wanted again if the area is
     /// full.
-    pub(crate) fn clean<D: Disk>(&mut self, board: &Board<B>, keeper: &mut SharedKeeper<B, D>)
+    pub(crate) fn clean<D: Disk, T: Trust>(
+        &mut self,
+        board: &Board<B, T>,
+        keeper: &mut SharedKeeper<B, D>,
+    )
         ensures settled { self.new.settled.number ≡ keeper.old.keeper.base }
         ensures order { self.new.order ≡ with_clean (record self.old.order { base = max self.old.order.base keeper.old.keeper.base }) keeper.old.keeper.base }
         ensures keeper { keeper.new.keeper ≡ keeper.old.keeper }

@@ -1,4 +1,4 @@
-ghost use Rattle.std.specs.Prelude.{◌≡◌, ◌+◌, ◌≤◌, ◌↔◌, ℕ, [], IfErr, IfOk, IsTrue, List, Some, length, replicate, vec_len};
+ghost use Rattle.std.specs.Prelude.{◌≡◌, ◌+◌, ◌≤◌, ◌↔◌, ℕ, [], IfErr, IfOk, IsTrue, List, OnOk, Some, length, vec_len};
 ghost use mathlib.Core.List.{IsPrefix};
 ghost use Rattle.checkpoint.specs.Opening.{IsAtRest, IsOpening, IsPassing, disk_after, faults_after_opening};
 ghost use Rattle.checkpoint.specs.Recovery.{IsRecovered};
@@ -6,16 +6,20 @@ ghost use Rattle.device_image.specs.Holds.{Holds};
 ghost use Rattle.device_image.specs.Keeps.{Keeps};
 ghost use Rattle.device_image.specs.Stands.{StandsFor};
 ghost use Rattle.disk_model.specs.Disk.{IsAllSynced, LeavesOnly};
+ghost use Rattle.export.specs.Clients.{new_client_passes};
 ghost use Rattle.export.specs.Left.{LeavesHistory};
 ghost use Rattle.export.specs.Opened.{keeper_part};
 ghost use Rattle.export.specs.Trusted.{IsTrusted, image_found};
 ghost use Rattle.image_model.specs.Image.{Image};
 ghost use Rattle.marks.specs.Known.{new_pass};
+ghost use Rattle.shared_store.specs.Logs.{IsLogOf};
 ghost use Rattle.shared_store.specs.Orders.{SpanRead};
 
 use crate::beside::ReadBeside;
 use crate::buffer_pool::BufferPool;
+use crate::client_pass::ClientPass;
 use crate::commit_queue::CommitQueue;
+use crate::log_mode::LogMode;
 use crate::name::ExportName;
 use crate::retired::RetiredPass;
 use crate::signals::Signals;
@@ -24,7 +28,7 @@ use checkpoint::{Keeper, KeeperFault};
 use device_image::keeper_laws;
 use disk_model::Disk;
 use image_model::Geometry;
-use marks::{BlankBoard, Board, KeeperSeat, Opened, Pass};
+use marks::{BlankBoard, Board, KeeperSeat, NoLog, Opened, Roster, Trust};
 use request_core::{Mode, fresh_order};
 use shared_store::{SharedKeeper, SharedOrder};
 use std::alloc::{AllocError, Global};
@@ -32,8 +36,8 @@ use std::sync::{Mutex, Wait};
 
 /// A device that was opened, and a board for it that has no name yet.
 #[derive(Drop)]
-pub struct OpenDevice<D: Disk, H: ReadBeside> {
-    pub blank: BlankBoard,
+pub struct OpenDevice<D: Disk, H: ReadBeside, T: Trust = NoLog> {
+    pub blank: BlankBoard<T>,
     pub keeper: Keeper<D>,
     /// By which it is read with no lock held, where there is one.
     pub beside: Option<H>,
@@ -44,14 +48,14 @@ pub struct OpenDevice<D: Disk, H: ReadBeside> {
     pub ghost counted: { failures ≡ D.faults keeper.disk },
 }
 
-impl<D: Disk, H: ReadBeside> OpenDevice<D, H> {
+impl<D: Disk, H: ReadBeside, T: Trust> OpenDevice<D, H, T> {
     /// Opens a device, which recovers it. It refuses as `Keeper::open` does, or for want of memory behind it, and hands the device
     /// back. A second handle has to be one of the same device.
     pub fn open(
         alloc: Global,
         disk: D,
         beside: Option<H>,
-    ) -> Result<OpenDevice<D, H>, (KeeperFault, D)>
+    ) -> Result<OpenDevice<D, H, T>, (KeeperFault, D)>
         ensures extent { D.extent (disk_after (keeper_part result (λ opened. opened.keeper))) ≡ D.extent disk }
         ensures faults { let given = keeper_part result (λ opened. opened.keeper) in D.faults (disk_after given) ≡ faults_after_opening given (D.faults disk) }
         ensures honest { D.honest (disk_after (keeper_part result (λ opened. opened.keeper))) ↔ D.honest disk }
@@ -98,12 +102,14 @@ impl<D: Disk, H: ReadBeside> OpenDevice<D, H> {
 /// One image that threads serve together. Each has a pass of its own.
 ///
 /// Two locks: that of the order and, taken before it, that of the keeper.
-pub struct Export<B: ExportName, D: Disk, H: ReadBeside> {
+pub struct Export<B: ExportName, D: Disk, H: ReadBeside, T: Trust = NoLog> {
     pub(crate) alloc: Global,
-    pub(crate) board: Board<B>,
+    pub(crate) board: Board<B, T>,
     pub geometry: Geometry,
     /// When a write command is answered.
     pub mode: Mode,
+    // The same, tied to the log.
+    pub(crate) log: LogMode<B, T>,
     pub(crate) engine: Mutex<StorageEngine<B, D>>,
     pub(crate) queue: Mutex<CommitQueue<B>>,
     // By which the device is read with neither lock held.
@@ -112,17 +118,19 @@ pub struct Export<B: ExportName, D: Disk, H: ReadBeside> {
     pub(crate) buffers: Mutex<BufferPool>,
     pub(crate) signals: Signals,
     ghost sized: { geometry ≡ B.geometry },
+    ghost moded: { log ≡ mode },
     ghost vouched: { (handle : H) → beside ≡ Some handle → (read : SpanRead) → H.vouches handle read → ∥ B.vouches read ∥₁ },
 }
 
 // Written out, it is proved once, and not again in each function that lets an export go.
-impl<B: ExportName, D: Disk + Drop, H: ReadBeside> Drop for Export<B, D, H> {
+impl<B: ExportName, D: Disk + Drop, H: ReadBeside, T: Trust> Drop for Export<B, D, H, T> {
     fn drop(self) {
         let Export {
             alloc: _,
             board: _,
             geometry: _,
             mode: _,
+            log: _,
             engine: _,
             queue: _,
             beside: _,
@@ -132,16 +140,17 @@ impl<B: ExportName, D: Disk + Drop, H: ReadBeside> Drop for Export<B, D, H> {
     }
 }
 
-impl<B: ExportName, D: Disk, H: ReadBeside> Export<B, D, H> {
+impl<B: ExportName, D: Disk, H: ReadBeside, T: Trust> Export<B, D, H, T> {
     /// An export over a device that was opened, under its name, which is picked where this is called, with `frames` frames for
-    /// blocks, a pass for each of `workers` workers, and one for its end. A refusal for memory hands the device back.
+    /// blocks, a client's pass for each of `workers` workers, and one for its end. If the board keeps a log it is one of this mode, image and
+    /// device. A refusal for memory hands the device back.
     pub fn open(
         alloc: Global,
-        device: OpenDevice<D, H>,
+        device: OpenDevice<D, H, T>,
         frames: u32,
         mode: Mode,
         workers: usize,
-    ) -> Result<(Export<B, D, H>, Vec<Pass<B>>, RetiredPass<B>), D>
+    ) -> Result<(Export<B, D, H, T>, Vec<ClientPass<B>>, RetiredPass<B>), D>
         requires board { device.blank.board ≡ B.board }
         requires named { device.blank.opening ≡ B.opening }
         requires geometry { device.keeper.geometry ≡ B.geometry }
@@ -150,9 +159,10 @@ impl<B: ExportName, D: Disk, H: ReadBeside> Export<B, D, H> {
         requires start { B.trusted → LeavesOnly B.start (D.state device.keeper.disk) (λ content. StandsFor content B.image B.opening) }
         requires vouches { (handle : H) → device.beside ≡ Some handle → (read : SpanRead) → H.vouches handle read → B.vouches read }
         requires frames { frames ≤ 65536 }
+        requires log { T.logs → IsLogOf B.opening B.image B.vouches B.trusted mode T.trusted T.mode T.image }
         ensures mode { IfOk result (λ made. made.0.mode ≡ mode) }
         ensures passes { IfOk result (λ made. vec_len made.1 ≡ workers) }
-        ensures known { IfOk result (λ made. made.1.items ≡ replicate workers (new_pass device.keeper.count)) }
+        ensures known { IfOk result (λ made. made.1.items ≡ new_client_passes device.keeper.count workers) }
         ensures last { IfOk result (λ made. made.2 ≡ new_pass device.keeper.count) }
         ensures back { IfErr result (λ disk. disk ≡ device.keeper.disk) }
     {
@@ -162,16 +172,18 @@ impl<B: ExportName, D: Disk, H: ReadBeside> Export<B, D, H> {
             beside,
             failures: _,
         } = device;
-        match open_parts::<B, D>(alloc, blank, &keeper, frames, workers) {
+        match open_parts::<B, D, T>(alloc, blank, &keeper, frames, workers) {
             Ok((board, seat, order, passes, last)) => {
                 let (settled, geometry) = (keeper.base(), keeper.geometry());
                 let engine = StorageEngine::new(SharedKeeper::new(keeper, seat));
                 let journal = engine.journal_use();
+                let log = LogMode::new(mode);
                 let made = Export {
                     alloc,
                     board,
                     geometry,
                     mode,
+                    log,
                     engine: Mutex::new(engine),
                     queue: Mutex::new(CommitQueue::new(order, frames, workers, settled, journal)),
                     beside,
@@ -207,6 +219,7 @@ impl<B: ExportName, D: Disk, H: ReadBeside> Export<B, D, H> {
             board,
             geometry: _,
             mode: _,
+            log: _,
             engine,
             queue,
             beside: _,
@@ -221,19 +234,19 @@ impl<B: ExportName, D: Disk, H: ReadBeside> Export<B, D, H> {
     }
 }
 
-// The board under its name with the keeper's seat and the passes, an order over what the opening left, and a pass for the end.
-fn open_parts<B: ExportName, D: Disk>(
+// The board under its name with the keeper's seat and the clients' passes, an order over what the opening left, and a pass for the end.
+fn open_parts<B: ExportName, D: Disk, T: Trust>(
     alloc: Global,
-    blank: BlankBoard,
+    blank: BlankBoard<T>,
     keeper: &Keeper<D>,
     frames: u32,
     workers: usize,
 ) -> Result<
     (
-        Board<B>,
+        Board<B, T>,
         KeeperSeat<B>,
         SharedOrder<B>,
-        Vec<Pass<B>>,
+        Vec<ClientPass<B>>,
         RetiredPass<B>,
     ),
     AllocError,
@@ -248,22 +261,20 @@ fn open_parts<B: ExportName, D: Disk>(
     ensures blocks { IfOk result (λ parts. length parts.2.cache.states ≡ keeper.now.geometry.blocks) }
     ensures noted { IfOk result (λ parts. parts.2.base ≡ keeper.now.count) }
     ensures passes { IfOk result (λ parts. vec_len parts.3 ≡ workers) }
-    ensures known { IfOk result (λ parts. parts.3.items ≡ replicate workers (new_pass keeper.now.count)) }
+    ensures known { IfOk result (λ parts. parts.3.items ≡ new_client_passes keeper.now.count workers) }
     ensures last { IfOk result (λ parts. parts.4 ≡ new_pass keeper.now.count) }
 {
-    let Some(count) = workers.checked_add(1) else {
-        return Err(AllocError);
-    };
     let Opened {
         board,
         order: order_seat,
         keeper: seat,
-        roster: _,
-        mut passes,
-    } = blank.open::<B>(alloc, count)?;
-    let Some(last) = passes.pop() else {
+        mut roster,
+        passes: mut last,
+    } = blank.open::<B>(alloc, 1)?;
+    let Some(last) = last.pop() else {
         return Err(AllocError);
     };
+    let passes = enroll_all(alloc, &board, &mut roster, workers)?;
     let order = fresh_order(alloc, keeper, frames, order_seat)?;
     Ok((
         board,
@@ -272,4 +283,24 @@ fn open_parts<B: ExportName, D: Disk>(
         passes,
         RetiredPass { pass: last },
     ))
+}
+
+// The passes of `count` clients more; before them there were none.
+fn enroll_all<B: ExportName, T: Trust>(
+    alloc: Global,
+    board: &Board<B, T>,
+    roster: &mut Roster<B>,
+    count: usize,
+) -> Result<Vec<ClientPass<B>>, AllocError>
+    requires { roster.old ≡ record { made = 0; calls = [] } }
+    ensures roster { OnOk result (roster.new ≡ record { made = count; calls = [] }) }
+    ensures passes { IfOk result (λ passes. passes.items ≡ new_client_passes B.opening count) }
+{
+    let mut passes = Vec::with_capacity(alloc, count)?;
+    for _ in 0..count {
+        passes.push(ClientPass {
+            pass: board.enroll(roster),
+        })?;
+    }
+    Ok(passes)
 }

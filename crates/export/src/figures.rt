@@ -8,6 +8,7 @@ use crate::name::ExportName;
 use crate::retired::RetiredPass;
 use crate::storage_engine::JournalUse;
 use disk_model::Disk;
+use marks::Trust;
 use std::rt::Clock;
 use std::sync::Wait;
 use std::time::{Duration, Instant};
@@ -100,7 +101,7 @@ impl Notes {
     }
 }
 
-impl<B: ExportName, D: Disk, H: ReadBeside> Export<B, D, H> {
+impl<B: ExportName, D: Disk, H: ReadBeside, T: Trust> Export<B, D, H, T> {
     /// The figures of this moment. It takes the order's lock for as long as it copies them, and waits for no call of the device.
     ///
     /// The accepted and the durable number are those of the board, as a FLUSH sees them, so the pass learns that they were reached.

@@ -8,6 +8,7 @@ use crate::shortage::Retries;
 use crate::storage_engine::{StorageEngine, StoredGroup};
 use crate::sync_points::{Point, SyncPoints};
 use disk_model::Disk;
+use marks::Trust;
 use shared_store::{SealedGroup, Unstored};
 use std::rt::Clock;
 use std::sync::Wait;
@@ -27,7 +28,7 @@ enum Flush<B: ExportName> {
     Ended,
 }
 
-impl<B: ExportName, D: Disk, H: ReadBeside> Export<B, D, H> {
+impl<B: ExportName, D: Disk, H: ReadBeside, T: Trust> Export<B, D, H, T> {
     /// Stores groups of commands where somebody waits for one, where more than 4 MiB are pending, where a command had no room,
     /// where one was pending for as long as `store_within` says, and once all passes have left. It ends when all have left and
     /// nothing is pending, or when a call of the device has failed.

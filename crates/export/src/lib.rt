@@ -5,6 +5,7 @@
 mod beside;
 mod buffer_pool;
 mod checkpointing;
+mod client_pass;
 mod commit_queue;
 mod edges;
 mod export;
@@ -12,6 +13,7 @@ mod figures;
 mod flushing;
 mod gathering;
 mod laws;
+mod log_mode;
 mod loss;
 mod name;
 mod retired;
@@ -24,6 +26,7 @@ mod sync_points;
 mod throttling;
 
 pub use beside::ReadBeside;
+pub use client_pass::ClientPass;
 pub use commit_queue::NotedBase;
 pub use export::{Export, OpenDevice};
 pub use figures::ExportFigures;

@@ -4,11 +4,12 @@ use crate::beside::ReadBeside;
 use crate::export::Export;
 use crate::name::ExportName;
 use disk_model::Disk;
+use marks::Trust;
 use std::rt::Clock;
 use std::sync::Wait;
 use std::time::Duration;
 
-impl<B: ExportName, D: Disk, H: ReadBeside> Export<B, D, H> {
+impl<B: ExportName, D: Disk, H: ReadBeside, T: Trust> Export<B, D, H, T> {
     /// From now on no write is accepted that could leave more than `most` bytes of commands pending: it waits until some are stored.
     pub fn limit_loss<R: Wait>(&self, rt: &R, most: u64) {
         self.queue.lock(rt).limit_pending(most);

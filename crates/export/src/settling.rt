@@ -5,13 +5,14 @@ ghost use Rattle.export.specs.Submits.{IsSettled};
 ghost use Rattle.marks.specs.Known.{known};
 
 use crate::beside::ReadBeside;
+use crate::client_pass::ClientPass;
 use crate::commit_queue::CommitQueue;
 use crate::export::Export;
 use crate::name::ExportName;
 use crate::retired::RetiredPass;
 use crate::sync_points::SyncPoints;
 use disk_model::Disk;
-use marks::Pass;
+use marks::Trust;
 use nbd_wire::Answer;
 use std::rt::Clock;
 use std::sync::{CondvarTimeouts, MutexGuard, Wait};
@@ -59,7 +60,7 @@ impl FlushInterval {
     }
 }
 
-impl<B: ExportName, D: Disk, H: ReadBeside> Export<B, D, H> {
+impl<B: ExportName, D: Disk, H: ReadBeside, T: Trust> Export<B, D, H, T> {
     /// Has the flusher store what has been pending for so long, though nobody waits for it.
     pub fn store_within<R: Wait>(&self, rt: &R, limit: Duration) {
         self.queue.lock(rt).interval().limit = Some(limit);
@@ -71,12 +72,13 @@ impl<B: ExportName, D: Disk, H: ReadBeside> Export<B, D, H> {
         &self,
         rt: &R,
         points: &mut G,
-        pass: &mut Pass<B>,
+        pass: &mut ClientPass<B>,
     ) -> Answer
-        ensures { IsSettled pass.old pass.new result }
+        ensures settled { IsSettled pass.old pass.new result }
+        ensures client { pass.new.client ≡ pass.old.client }
     {
-        let accepted = self.board.look_accepted(pass);
-        self.wait_for(rt, points, pass, accepted)
+        let last = self.board.look_accepted(&mut pass.pass);
+        self.wait_for(rt, points, &mut pass.pass, last)
     }
 
     /// Has all that is accepted by now stored, and waits until it is; the number of the last of it. None if it never will be.

@@ -2,11 +2,12 @@
 ghost use Rattle.std.specs.Prelude.{◌≡◌, ◌≢◌, ◌+◌, ◌<◌, ℕ, List, length};
 ghost use mathlib.Core.List.{IsPrefix};
 ghost use Rattle.disk_model.specs.Disk.{MayLeave};
-ghost use Rattle.export.specs.inner.Submits.{FitsServed, IsServedFor};
+ghost use Rattle.export.specs.inner.Submits.{FitsServed, IsClientFor, IsServedFor};
 ghost use Rattle.image_model.specs.Image.{apply_all};
 ghost use Rattle.order_book.specs.Order.{with_durable};
 ghost use Rattle.shared_store.specs.Keepers.{HasLeft};
 ghost use Rattle.shared_store.specs.Answers.{ServesImage};
+ghost use Rattle.shared_store.specs.Logs.{IsAt, IsLogOf};
 ghost use Rattle.shared_store.specs.Orders.{Trusting};
 ghost use Rattle.shared_store.specs.Parts.{StandsWithin};
 
@@ -15,7 +16,7 @@ use crate::name::ExportName;
 use checkpoint::{Keeper, KeeperFault};
 use disk_model::Disk;
 use journal::Group;
-use marks::{Board, Pass};
+use marks::{Board, Pass, Trust};
 use nbd_wire::Request;
 use request_core::{Served, Terms};
 use shared_store::{SealedGroup, SharedKeeper, SharedOrder, Unstored};
@@ -140,9 +141,9 @@ impl<B: ExportName, D: Disk> StorageEngine<B, D> {
     }
 
     /// Stores a sealed group; one that may be stored later comes back.
-    pub(crate) fn append(
+    pub(crate) fn append<T: Trust>(
         &mut self,
-        board: &Board<B>,
+        board: &Board<B, T>,
         sealed: SealedGroup<B>,
     ) -> Result<StoredGroup, Unstored<B>> {
         let group = sealed.group();
@@ -179,7 +180,10 @@ impl<B: ExportName, D: Disk> StorageEngine<B, D> {
     }
 
     /// Takes the next step of copying the first area that waits: some of its blocks, the map after it, or it is let go.
-    pub(crate) fn copy_on(&mut self, board: &Board<B>) -> Result<CopyStep, KeeperFault> {
+    pub(crate) fn copy_on<T: Trust>(
+        &mut self,
+        board: &Board<B, T>,
+    ) -> Result<CopyStep, KeeperFault> {
         match self.stage {
             Stage::Copy => self.copy(),
             Stage::Map => {
@@ -218,18 +222,21 @@ impl<B: ExportName, D: Disk> StorageEngine<B, D> {
     }
 
     /// Serves a request that isn't a DISC, with the keeper.
-    pub(crate) fn serve(
+    pub(crate) fn serve<T: Trust>(
         &mut self,
         queue: &mut CommitQueue<B>,
         alloc: Global,
         request: Request,
-        board: &Board<B>,
+        board: &Board<B, T>,
         pass: &mut Pass<B>,
         terms: Terms,
     ) -> Served
         requires kind { request.head.kind ≢ 2 }
         requires geometry { terms.geometry ≡ B.geometry }
+        requires log { T.logs → IsLogOf B.opening B.image B.vouches B.trusted terms.mode T.trusted T.mode T.image }
+        requires asked { T.logs → IsAt request pass.old.client }
         ensures served { IsServedFor B.opening B.image (Trusting B.opening B.image B.vouches B.trusted) request terms.mode pass.old pass.new result }
+        ensures client { IsClientFor T.logs T.trusted T.image pass.old pass.new result }
         ensures fits { FitsServed terms.geometry terms.flags request result }
         ensures tells { Trusting B.opening B.image B.vouches B.trusted (ServesImage (apply_all pass.new.history B.image) request.head result) }
     {
@@ -237,7 +244,7 @@ impl<B: ExportName, D: Disk> StorageEngine<B, D> {
     }
 
     /// Lets the frames of a queue go whose blocks map and data hold.
-    pub(crate) fn clean(&mut self, queue: &mut CommitQueue<B>, board: &Board<B>)
+    pub(crate) fn clean<T: Trust>(&mut self, queue: &mut CommitQueue<B>, board: &Board<B, T>)
         ensures { queue.new.settled.number ≡ self.old.shared.keeper.base }
     {
         queue.clean(board, &mut self.shared);
@@ -245,10 +252,10 @@ impl<B: ExportName, D: Disk> StorageEngine<B, D> {
 
     /// Keeper and pass meet the order: the pass knows all of the history then, and what it knows to be durable is stored. It gives the
     /// number of the last command that was accepted.
-    pub(crate) fn meet_all(
+    pub(crate) fn meet_all<T: Trust>(
         &mut self,
         queue: &mut CommitQueue<B>,
-        board: &Board<B>,
+        board: &Board<B, T>,
         pass: &mut Pass<B>,
     ) -> u64
         ensures mark { result ≡ B.opening + length pass.new.history }
@@ -265,7 +272,7 @@ impl<B: ExportName, D: Disk> StorageEngine<B, D> {
     }
 
     /// Makes durable in the order what is stored.
-    pub(crate) fn publish(&mut self, board: &Board<B>, order: &mut SharedOrder<B>)
+    pub(crate) fn publish<T: Trust>(&mut self, board: &Board<B, T>, order: &mut SharedOrder<B>)
         ensures { order.new ≡ with_durable order.old self.old.shared.keeper.count }
     {
         order.publish(board, &mut self.shared);

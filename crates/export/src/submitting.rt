@@ -1,9 +1,11 @@
-ghost use Rattle.std.specs.Prelude.{◌≡◌, ◌≢◌, ◌⊎◌, ◌≤◌, ◌<◌, ◌-◌, ◌*◌, max, IfNone, IfSome, OnOk, length, slice_range, vec_len};
+ghost use Rattle.std.specs.Prelude.{◌≡◌, ◌≢◌, ◌⊎◌, ◌≤◌, ◌<◌, ◌-◌, ◌*◌, ◌++◌, ◌∷◌, [], max, IfNone, IfSome, OnOk, length, slice_range, vec_len};
 ghost use mathlib.Core.List.{IsPrefix};
 ghost use Rattle.export.specs.Noted.{base_of};
 ghost use Rattle.export.specs.Submits.{IsCovered, IsJudged, IsSubmitted};
-ghost use Rattle.export.specs.inner.Submits.{FitsServed, IsServedFor, IsUnserved, IsWaitedFor};
-ghost use Rattle.export.specs.inner.Outcomes.{ComesToImage, FitsOutcome, IsOutcomeFor};
+ghost use Rattle.export.specs.inner.Submits.{FitsServed, IsClientFor, IsServedFor, IsUnserved, IsWaitedFor};
+ghost use Rattle.export.specs.inner.Outcomes.{ComesToImage, FitsOutcome, IsClientAt, IsOutcomeFor};
+ghost use Rattle.export_model.specs.Answers.{MayAnswer};
+ghost use Rattle.export_model.specs.declared.event.Event.TheVariants as Event;
 ghost use Rattle.image_model.specs.Image.{apply_all};
 ghost use Rattle.marks.specs.Known.{known};
 ghost use Rattle.nbd_wire.specs.Reply.{IsAnswerTo};
@@ -11,11 +13,13 @@ ghost use Rattle.nbd_wire.specs.declared.message.Answer.TheVariants as Answer;
 ghost use Rattle.regions.specs.Layout.{block_at};
 ghost use Rattle.request_core.specs.Reading.{IsPlanned};
 ghost use Rattle.shared_store.specs.Answers.{ServesImage, TellsImage};
+ghost use Rattle.shared_store.specs.Logs.{IsAt, IsLogOf};
 ghost use Rattle.export_model.specs.Verdict.{verdict};
 ghost use Rattle.shared_store.specs.Orders.{Trusting};
 
 use crate::beside::ReadBeside;
 use crate::buffer_pool::LEAST_KEPT;
+use crate::client_pass::ClientPass;
 use crate::commit_queue::Planned;
 use crate::edges::MissingEdges;
 use crate::export::Export;
@@ -24,7 +28,7 @@ use crate::retired::RetiredPass;
 use crate::sync_points::SyncPoints;
 use disk_model::{DeviceFault, Disk};
 use image_model::BLOCK_BYTES;
-use marks::{Pass, Told};
+use marks::{Pass, Told, Trust};
 use nbd_wire::{Answer, Errno, FLUSH, Reply, Request, SessionFlags};
 use regions::Regions;
 use request_core::{Action, Blocks, NeedsKeeper, Served, Terms, judge};
@@ -34,10 +38,10 @@ use std::sync::Wait;
 /// How often a READ is tried without locks before it waits for the keeper.
 const MOST_TRIES: u32 = 2;
 
-impl<B: ExportName, D: Disk, H: ReadBeside> Export<B, D, H> {
+impl<B: ExportName, D: Disk, H: ReadBeside, T: Trust> Export<B, D, H, T> {
     /// The answer to a FLUSH sent now: Done if all that was accepted by now is durable, and otherwise nothing. It waits for nobody and
     /// takes no lock.
-    pub fn flush_now(&self, pass: &mut Pass<B>) -> Option<Answer>
+    pub fn flush_now(&self, pass: &mut ClientPass<B>) -> Option<Answer>
         ensures done { IfSome result (λ answer. (answer ≡ Answer.Done) × (known pass.old ≤ pass.new.accepted) × (pass.new.accepted ≤ pass.new.durable)) }
         ensures none { IfNone result (pass.new.durable < pass.new.accepted) }
         ensures knew { IsPrefix pass.old.history pass.new.history }
@@ -45,8 +49,8 @@ impl<B: ExportName, D: Disk, H: ReadBeside> Export<B, D, H> {
         ensures lasts { pass.old.durable ≤ pass.new.durable }
         ensures own { pass.new.own ≡ pass.old.own }
     {
-        let accepted = self.board.look_accepted(pass);
-        let durable = self.board.look_durable(pass);
+        let accepted = self.board.look_accepted(&mut pass.pass);
+        let durable = self.board.look_durable(&mut pass.pass);
         if durable < accepted {
             return None;
         }
@@ -54,26 +58,26 @@ impl<B: ExportName, D: Disk, H: ReadBeside> Export<B, D, H> {
     }
 
     /// What a pass knows once it has looked at what was accepted, for another pass to learn.
-    pub fn tell(&self, pass: &mut Pass<B>) -> Told<B>
+    pub fn tell(&self, pass: &mut ClientPass<B>) -> Told<B>
         ensures told { result ≡ record { history = pass.new.history; accepted = pass.new.accepted; durable = pass.new.durable } }
         ensures known { known pass.old ≤ pass.new.accepted }
         ensures knew { IsPrefix pass.old.history pass.new.history }
         ensures pass { pass.new ≡ record pass.old { history = pass.new.history; accepted = pass.new.accepted } }
     {
-        self.board.tell(pass)
+        self.board.tell(&mut pass.pass)
     }
 
     /// A pass learns what another one told: it then knows no less than both, and what both knew of the history begins what it knows.
-    pub fn learn(&self, pass: &mut Pass<B>, told: Told<B>)
+    pub fn learn(&self, pass: &mut ClientPass<B>, told: Told<B>)
         ensures knew { IsPrefix pass.old.history pass.new.history }
         ensures told { IsPrefix told.history pass.new.history }
         ensures pass { pass.new ≡ record pass.old { history = pass.new.history; accepted = max pass.old.accepted told.accepted; durable = max pass.old.durable told.durable } }
     {
-        self.board.learn(pass, told);
+        self.board.learn(&mut pass.pass, told);
     }
 }
 
-impl<B: ExportName, D: Disk, H: ReadBeside> Export<B, D, H> {
+impl<B: ExportName, D: Disk, H: ReadBeside, T: Trust> Export<B, D, H, T> {
     /// Serves a request that isn't a DISC, for a pass, to its reply. It may wait: for room, and until what it says is durable.
     ///
     /// A request that the rules on requests refuse gets their error. Any other one gets EIO after a device fault, ENOMEM if memory is
@@ -87,7 +91,7 @@ impl<B: ExportName, D: Disk, H: ReadBeside> Export<B, D, H> {
         &self,
         rt: &R,
         points: &mut G,
-        pass: &mut Pass<B>,
+        pass: &mut ClientPass<B>,
         request: Request,
         flags: &SessionFlags,
     ) -> Reply
@@ -99,19 +103,47 @@ impl<B: ExportName, D: Disk, H: ReadBeside> Export<B, D, H> {
 
         // A READ and a BLOCK_STATUS show what the image of the opening is after the history that the pass then knows.
         ensures tells { Trusting B.opening B.image B.vouches B.trusted (TellsImage (apply_all pass.new.history B.image) request.head result.answer) }
+
+        // Its client has sent this request and was given this answer, and nothing else happened to it. Both are in the log, if the board
+        // keeps one.
+        ensures by { pass.new.client.by ≡ pass.old.client.by }
+        ensures calls { pass.new.client.mine ≡ pass.old.client.mine ++ Event.Sent pass.old.client.by request ∷ Event.Answered pass.old.client.by result.answer ∷ [] }
     {
         let cookie = request.head().cookie;
         let terms = Terms {
             geometry: self.geometry,
             flags: *flags,
-            mode: self.mode,
+            mode: self.log.mode(),
         };
+        let request = self.board.begin(&mut pass.pass, request);
+        let answer = self.serve_to_end(rt, points, &mut pass.pass, request, terms);
+        let answer = self.board.answer(&mut pass.pass, answer);
+        Reply { cookie, answer }
+    }
+
+    // Serves a request that its client has sent, to the answer that it may be given.
+    fn serve_to_end<R: Wait + Clock, G: SyncPoints>(
+        &self,
+        rt: &R,
+        points: &mut G,
+        pass: &mut Pass<B>,
+        request: Request,
+        terms: Terms,
+    ) -> Answer
+        requires kind { request.head.kind ≢ 2 }
+        requires geometry { terms.geometry ≡ B.geometry }
+        requires log { T.logs → IsLogOf B.opening B.image B.vouches B.trusted terms.mode T.trusted T.mode T.image }
+        requires asked { T.logs → IsAt request pass.old.client }
+        ensures submitted { IsSubmitted B.opening B.image (Trusting B.opening B.image B.vouches B.trusted) request terms.mode pass.old pass.new result }
+        ensures kind { IsAnswerTo terms.flags request.head.kind result }
+        ensures judged { IsJudged (verdict request.head terms.geometry terms.flags) request result }
+        ensures tells { Trusting B.opening B.image B.vouches B.trusted (TellsImage (apply_all pass.new.history B.image) request.head result) }
+        ensures client { pass.new.client ≡ record pass.old.client { state = pass.new.client.state } }
+        ensures may { T.logs → MayAnswer T.trusted T.image pass.new.durable pass.new.history pass.new.client.state result }
+    {
         match self.serve(rt, pass, request, terms) {
-            Outcome::Answered(answer) => Reply { cookie, answer },
-            Outcome::Waits(number) => Reply {
-                cookie,
-                answer: self.wait_for(rt, points, pass, number),
-            },
+            Outcome::Answered(answer) => answer,
+            Outcome::Waits(number) => self.wait_for(rt, points, pass, number),
         }
     }
 
@@ -134,7 +166,10 @@ impl<B: ExportName, D: Disk, H: ReadBeside> Export<B, D, H> {
     fn serve<R: Wait>(&self, rt: &R, pass: &mut Pass<B>, request: Request, terms: Terms) -> Outcome
         requires kind { request.head.kind ≢ 2 }
         requires geometry { terms.geometry ≡ B.geometry }
+        requires log { T.logs → IsLogOf B.opening B.image B.vouches B.trusted terms.mode T.trusted T.mode T.image }
+        requires asked { T.logs → IsAt request pass.old.client }
         ensures outcome { IsOutcomeFor B.opening B.image (Trusting B.opening B.image B.vouches B.trusted) request terms.mode pass.old pass.new result }
+        ensures client { IsClientAt T.logs T.trusted T.image pass.old pass.new result }
         ensures fits { FitsOutcome terms.geometry terms.flags request result }
         ensures tells { Trusting B.opening B.image B.vouches B.trusted (ComesToImage (apply_all pass.new.history B.image) request.head result) }
     {
@@ -160,7 +195,10 @@ impl<B: ExportName, D: Disk, H: ReadBeside> Export<B, D, H> {
     ) -> Served
         requires kind { request.head.kind ≢ 2 }
         requires geometry { terms.geometry ≡ B.geometry }
+        requires log { T.logs → IsLogOf B.opening B.image B.vouches B.trusted terms.mode T.trusted T.mode T.image }
+        requires asked { T.logs → IsAt request pass.old.client }
         ensures served { IsServedFor B.opening B.image (Trusting B.opening B.image B.vouches B.trusted) request terms.mode pass.old pass.new result }
+        ensures client { IsClientFor T.logs T.trusted T.image pass.old pass.new result }
         ensures fits { FitsServed terms.geometry terms.flags request result }
         ensures tells { Trusting B.opening B.image B.vouches B.trusted (ServesImage (apply_all pass.new.history B.image) request.head result) }
     {
@@ -212,7 +250,10 @@ impl<B: ExportName, D: Disk, H: ReadBeside> Export<B, D, H> {
         requires kind { request.head.kind ≢ 2 }
         requires geometry { terms.geometry ≡ B.geometry }
         requires planned { IfSome planned (λ planned. IsPlanned request.head terms.geometry terms.flags planned.span) }
+        requires log { T.logs → IsLogOf B.opening B.image B.vouches B.trusted terms.mode T.trusted T.mode T.image }
+        requires asked { T.logs → IsAt request pass.old.client }
         ensures served { IsServedFor B.opening B.image (Trusting B.opening B.image B.vouches B.trusted) request terms.mode pass.old pass.new result }
+        ensures client { IsClientFor T.logs T.trusted T.image pass.old pass.new result }
         ensures fits { FitsServed terms.geometry terms.flags request result }
         ensures tells { Trusting B.opening B.image B.vouches B.trusted (ServesImage (apply_all pass.new.history B.image) request.head result) }
     {
@@ -260,7 +301,10 @@ impl<B: ExportName, D: Disk, H: ReadBeside> Export<B, D, H> {
     ) -> Option<Served>
         requires geometry { terms.now.geometry ≡ B.geometry }
         requires planned { IfSome planned (λ planned. IsPlanned request.now.head terms.now.geometry terms.now.flags planned.span) }
+        requires log { T.logs → IsLogOf B.opening B.image B.vouches B.trusted terms.now.mode T.trusted T.mode T.image }
+        requires asked { T.logs → IsAt request.now pass.old.client }
         ensures served { IfSome result (λ served. IsServedFor B.opening B.image (Trusting B.opening B.image B.vouches B.trusted) request.now terms.now.mode pass.old pass.new served) }
+        ensures client { IfSome result (λ served. IsClientFor T.logs T.trusted T.image pass.old pass.new served) }
         ensures fits { IfSome result (λ served. FitsServed terms.now.geometry terms.now.flags request.now served) }
         ensures tells { IfSome result (λ served. Trusting B.opening B.image B.vouches B.trusted (ServesImage (apply_all pass.new.history B.image) request.now.head served)) }
         ensures unchanged { IfNone result (pass.new ≡ pass.old) }
@@ -352,7 +396,10 @@ impl<B: ExportName, D: Disk, H: ReadBeside> Export<B, D, H> {
     ) -> Served
         requires kind { request.head.kind ≢ 2 }
         requires geometry { terms.geometry ≡ B.geometry }
+        requires log { T.logs → IsLogOf B.opening B.image B.vouches B.trusted terms.mode T.trusted T.mode T.image }
+        requires asked { T.logs → IsAt request pass.old.client }
         ensures served { IsServedFor B.opening B.image (Trusting B.opening B.image B.vouches B.trusted) request terms.mode pass.old pass.new result }
+        ensures client { IsClientFor T.logs T.trusted T.image pass.old pass.new result }
         ensures fits { FitsServed terms.geometry terms.flags request result }
         ensures tells { Trusting B.opening B.image B.vouches B.trusted (ServesImage (apply_all pass.new.history B.image) request.head result) }
     {
@@ -409,11 +456,12 @@ impl<B: ExportName, D: Disk, H: ReadBeside> Export<B, D, H> {
     }
 
     /// Takes a pass for which no request will be submitted any more.
-    pub fn leave<R: Wait>(&self, rt: &R, pass: Pass<B>) -> RetiredPass<B>
+    pub fn leave<R: Wait>(&self, rt: &R, pass: ClientPass<B>) -> RetiredPass<B>
         ensures { result ≡ pass }
     {
         self.queue.lock(rt).leave();
         self.signals.work.notify_one();
+        let ClientPass { pass } = pass;
         RetiredPass { pass }
     }
 
@@ -426,8 +474,8 @@ impl<B: ExportName, D: Disk, H: ReadBeside> Export<B, D, H> {
         ensures own { pass.new.own ≡ pass.old.own }
     {
         let RetiredPass { pass: mut other } = other;
-        let told = self.tell(&mut other);
-        self.learn(&mut pass.pass, told);
+        let known = self.board.tell(&mut other);
+        self.board.learn(&mut pass.pass, known);
     }
 }
 

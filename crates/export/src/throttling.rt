@@ -6,6 +6,7 @@ use crate::export::Export;
 use crate::name::ExportName;
 use disk_model::Disk;
 use image_model::BLOCK_BYTES;
+use marks::Trust;
 use std::rt::Clock;
 use std::sync::{CondvarTimeouts, Wait};
 use std::time::{Duration, Instant};
@@ -59,7 +60,7 @@ impl Throttle {
     }
 }
 
-impl<B: ExportName, D: Disk, H: ReadBeside> Export<B, D, H> {
+impl<B: ExportName, D: Disk, H: ReadBeside, T: Trust> Export<B, D, H, T> {
     /// Has a client wait that has written this many bytes, for 10 ms at most, if more than seven eighths of the frames are dirty;
     /// for how long it did, where that can be told. The write was accepted after `began`, where that is known.
     pub fn throttle<R: Wait + Clock>(

@@ -7,9 +7,8 @@ use crate::requests::{flush, reads_back, trim_block, write_block};
 use crate::threads::start_storing;
 use checkpoint::Keeper;
 use disk_model::{Disk, FileDisk};
-use export::{Export, ExportName, OpenDevice, ReadBeside};
+use export::{ClientPass, Export, ExportName, OpenDevice, ReadBeside};
 use image_model::Geometry;
-use marks::Pass;
 use request_core::Mode;
 use std::alloc::Global;
 use std::marker::Brand;
@@ -44,7 +43,7 @@ fn read_turns<B: ExportName, D: Disk, H: ReadBeside, R: Wait + Clock>(
     rt: &R,
     alloc: Global,
     export: &Export<B, D, H>,
-    mut pass: Pass<B>,
+    mut pass: ClientPass<B>,
     turns: &Turns,
 ) {
     for turn in 1..TURNS + 1 {
@@ -63,7 +62,7 @@ fn write_others<B: ExportName, D: Disk, H: ReadBeside, R: Wait + Clock>(
     rt: &R,
     alloc: Global,
     export: &Export<B, D, H>,
-    pass: &mut Pass<B>,
+    pass: &mut ClientPass<B>,
     round: u64,
 ) -> bool {
     let mut good = true;
@@ -79,7 +78,7 @@ fn one_turn<B: ExportName, D: Disk, H: ReadBeside, R: Wait + Clock>(
     rt: &R,
     alloc: Global,
     export: &Export<B, D, H>,
-    pass: &mut Pass<B>,
+    pass: &mut ClientPass<B>,
     turns: &Turns,
     latch: &Latch,
     turn: u64,
@@ -105,7 +104,7 @@ fn write_turns<B: ExportName, D: Disk, H: ReadBeside, R: Wait + Clock>(
     rt: &R,
     alloc: Global,
     export: &Export<B, D, H>,
-    mut pass: Pass<B>,
+    mut pass: ClientPass<B>,
     turns: &Turns,
     latch: &Latch,
 ) -> bool {
@@ -131,7 +130,7 @@ fn run_turns<
     rt: &R,
     alloc: Global,
     export: &Export<B, D, H>,
-    mut passes: Vec<Pass<B>>,
+    mut passes: Vec<ClientPass<B>>,
     turns: &Turns,
     latch: &Latch,
 ) -> Option<bool> {
@@ -147,8 +146,8 @@ fn start_turns<'s, E, B, D, H, R>(
     rt: &'s R,
     alloc: Global,
     export: &'s Export<B, D, H>,
-    reads: Pass<B>,
-    writes: Pass<B>,
+    reads: ClientPass<B>,
+    writes: ClientPass<B>,
     turns: &'s Turns,
     latch: &Latch,
 ) -> Option<bool>

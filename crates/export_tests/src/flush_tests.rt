@@ -6,9 +6,8 @@ use crate::requests::{flush, fresh, has_block, reads_back, write_block};
 use crate::threads::start_storing;
 use checkpoint::Keeper;
 use disk_model::{Disk, FileDisk};
-use export::{Export, ExportName, OpenDevice};
+use export::{ClientPass, Export, ExportName, OpenDevice};
 use image_model::Geometry;
-use marks::Pass;
 use request_core::Mode;
 use std::alloc::Global;
 use std::fs::{self, OpenOptions};
@@ -37,7 +36,7 @@ fn write_all<B: ExportName, D: Disk, R: Wait + Clock>(
     rt: &R,
     alloc: Global,
     export: &Export<B, D, ()>,
-    pass: &mut Pass<B>,
+    pass: &mut ClientPass<B>,
     first: u64,
     count: u64,
 ) -> bool
@@ -55,7 +54,7 @@ fn read_all<B: ExportName, D: Disk, R: Wait + Clock>(
     rt: &R,
     alloc: Global,
     export: &Export<B, D, ()>,
-    pass: &mut Pass<B>,
+    pass: &mut ClientPass<B>,
     count: u64,
 ) -> bool
     requires { count < 2 ^ 24 }
@@ -72,8 +71,8 @@ fn two_passes<B: ExportName, D: Disk, R: Wait + Clock>(
     rt: &R,
     alloc: Global,
     export: &Export<B, D, ()>,
-    mut one: Pass<B>,
-    mut other: Pass<B>,
+    mut one: ClientPass<B>,
+    mut other: ClientPass<B>,
 ) -> Done {
     let written = write_all(rt, alloc, export, &mut one, 0, 20)
         & write_all(rt, alloc, export, &mut other, 20, 20);
@@ -100,8 +99,8 @@ fn one_pass_alone<B: ExportName, D: Disk, R: Wait + Clock>(
     rt: &R,
     alloc: Global,
     export: &Export<B, D, ()>,
-    mut one: Pass<B>,
-    other: Pass<B>,
+    mut one: ClientPass<B>,
+    other: ClientPass<B>,
 ) -> Done {
     export.leave(rt, other);
     let mut flushed = true;
@@ -169,8 +168,8 @@ fn with_threads<B: ExportName + Send + Sync, D: Disk + Send, R: Threads + Wait +
     rt: &R,
     alloc: Global,
     export: &Export<B, D, ()>,
-    one: Pass<B>,
-    other: Pass<B>,
+    one: ClientPass<B>,
+    other: ClientPass<B>,
     alone: bool,
 ) -> Option<Done> {
     thread::scope(thread::scope_env(), rt, move |scope| {

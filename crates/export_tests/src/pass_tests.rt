@@ -5,8 +5,7 @@ ghost use Rattle.shared_store.specs.Orders.{SpanRead};
 use crate::requests::{flush, fresh, has_block, reads_back, write_block};
 use checkpoint::Keeper;
 use disk_model::SimDisk;
-use export::{Export, ExportName, OpenDevice};
-use marks::Pass;
+use export::{ClientPass, Export, ExportName, OpenDevice};
 use request_core::Mode;
 use std::alloc::Global;
 use std::marker::Brand;
@@ -76,8 +75,8 @@ fn ask<B: ExportName, R: Wait + Clock>(
     rt: &R,
     alloc: Global,
     export: &Export<B, SimDisk, ()>,
-    mut one: Pass<B>,
-    mut other: Pass<B>,
+    mut one: ClientPass<B>,
+    mut other: ClientPass<B>,
 ) -> Option<Said> {
     let mut good = write_block(rt, alloc, export, &mut one, 1, 1);
     let written = export.flush_now(&mut one).is_some();
@@ -104,8 +103,8 @@ fn with_flusher<B: ExportName + Send + Sync, R: Threads + Wait + Clock + Sync>(
     rt: &R,
     alloc: Global,
     export: &Export<B, SimDisk, ()>,
-    one: Pass<B>,
-    other: Pass<B>,
+    one: ClientPass<B>,
+    other: ClientPass<B>,
 ) -> Option<Said> {
     thread::scope(thread::scope_env(), rt, move |scope| {
         if scope.spawn(move || export.flusher(rt, &mut ())).is_err() {
@@ -154,7 +153,7 @@ fn write_its_own<B: ExportName, R: Wait + Clock>(
     rt: &R,
     alloc: Global,
     export: &Export<B, SimDisk, ()>,
-    mut pass: Pass<B>,
+    mut pass: ClientPass<B>,
     places: &AtomicU64,
     written: &AtomicU64,
 ) {
@@ -172,7 +171,7 @@ fn write_by_threads<B: ExportName + Send + Sync, R: Threads + Wait + Clock + Syn
     rt: &R,
     alloc: Global,
     export: &Export<B, SimDisk, ()>,
-    passes: Vec<Pass<B>>,
+    passes: Vec<ClientPass<B>>,
 ) -> u64 {
     let next = AtomicU64::new(0);
     let sum = AtomicU64::new(0);

@@ -3,9 +3,8 @@ ghost use Rattle.std.specs.Prelude.{◌≡◌, ◌≢◌, ◌*◌, ◌<◌, ◌^
 
 use checkpoint::Keeper;
 use disk_model::{Disk, SimDisk};
-use export::{Export, ExportName, OpenDevice, ReadBeside};
+use export::{ClientPass, Export, ExportName, OpenDevice, ReadBeside};
 use image_model::Geometry;
-use marks::Pass;
 use nbd_wire::{Answer, FLUSH, READ, Request, RequestHead, SessionFlags, TRIM, WRITE};
 use std::alloc::{AllocError, Global};
 use std::rt::Clock;
@@ -134,7 +133,7 @@ pub fn write_block<B: ExportName, D: Disk, H: ReadBeside, R: Wait + Clock>(
     rt: &R,
     alloc: Global,
     export: &Export<B, D, H>,
-    pass: &mut Pass<B>,
+    pass: &mut ClientPass<B>,
     block: u64,
     round: u64,
 ) -> bool
@@ -151,7 +150,7 @@ pub fn trim_block<B: ExportName, D: Disk, H: ReadBeside, R: Wait + Clock>(
     rt: &R,
     alloc: Global,
     export: &Export<B, D, H>,
-    pass: &mut Pass<B>,
+    pass: &mut ClientPass<B>,
     block: u64,
 ) -> bool
     requires { block < 2 ^ 24 }
@@ -168,7 +167,7 @@ pub fn flush<B: ExportName, D: Disk, H: ReadBeside, R: Wait + Clock>(
     rt: &R,
     alloc: Global,
     export: &Export<B, D, H>,
-    pass: &mut Pass<B>,
+    pass: &mut ClientPass<B>,
 ) -> bool {
     is_done(
         &export
@@ -192,7 +191,7 @@ pub fn reads_back<B: ExportName, D: Disk, H: ReadBeside, R: Wait + Clock>(
     rt: &R,
     alloc: Global,
     export: &Export<B, D, H>,
-    pass: &mut Pass<B>,
+    pass: &mut ClientPass<B>,
     block: u64,
     round: u64,
 ) -> bool

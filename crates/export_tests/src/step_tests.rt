@@ -5,8 +5,7 @@ ghost use Rattle.shared_store.specs.Orders.{SpanRead};
 use crate::requests::{flush, fresh, write_block};
 use checkpoint::Keeper;
 use disk_model::SimDisk;
-use export::{Export, ExportName, OpenDevice, Point, SyncPoints};
-use marks::Pass;
+use export::{ClientPass, Export, ExportName, OpenDevice, Point, SyncPoints};
 use request_core::Mode;
 use std::alloc::Global;
 use std::marker::Brand;
@@ -65,7 +64,7 @@ fn flush_while_held<B: ExportName, R: Wait + Clock>(
     rt: &R,
     alloc: Global,
     export: &Export<B, SimDisk, ()>,
-    mut pass: Pass<B>,
+    mut pass: ClientPass<B>,
     held: &AtomicBool,
     answered: &AtomicBool,
 ) -> bool {
@@ -87,7 +86,7 @@ fn hold_steps<B: ExportName + Send + Sync, R: Threads + Wait + Clock + Sync>(
     rt: &R,
     alloc: Global,
     export: &Export<B, SimDisk, ()>,
-    pass: Pass<B>,
+    pass: ClientPass<B>,
     held: &AtomicBool,
     answered: &AtomicBool,
 ) -> Option<bool> {

@@ -150,6 +150,7 @@ impl<B: BoardName, T: Trust> Board<B, T> {
         requires speaks { pass.old.client.speaks ≡ true }
         requires idle { pass.old.client.state ≡ Connection.Idle }
         ensures same { result ≡ request }
+        ensures known { known pass.old ≤ pass.new.accepted }
         ensures seen { IsPrefix pass.old.history pass.new.history }
         ensures number { pass.new.accepted ≡ B.opening + length pass.new.history }
         ensures pass { pass.new ≡ record pass.old { history = pass.new.history; accepted = pass.new.accepted; client = sending pass.old.client request } }

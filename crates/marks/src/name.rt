@@ -56,3 +56,17 @@ impl Trust for NoLog {
 
     ghost image = { record { blocks = 0; byte = λ place. 0; kind = λ block. Hole } };
 }
+
+/// The members that stand here are the ones that nobody picked: no log is kept.
+impl Trust for Brand {
+    ghost use Rattle.export_model.specs.declared.step.Mode.TheVariants.{Writeback};
+    ghost use Rattle.image_model.specs.declared.command.Kind.TheVariants.{Hole};
+
+    ghost logs = { ⊥ };
+
+    ghost trusted = { ⊥ };
+
+    ghost mode = { Writeback };
+
+    ghost image = { record { blocks = 0; byte = λ place. 0; kind = λ block. Hole } };
+}

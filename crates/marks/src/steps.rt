@@ -143,6 +143,7 @@ impl<B: BoardName, T: Trust> Board<B, T> {
         requires speaks { client.old.me.0.client.speaks ≡ true }
         requires idle { client.old.me.0.client.state ≡ Connection.Idle }
         ensures same { result ≡ request }
+        ensures known { last_number client.old.me.0 ≤ last_number client.new.me.0 }
         ensures seen { IsPrefix client.old.me.0.seen client.new.me.0.seen }
         ensures seat { IsSeat B.board B.opening client.new
             × (client.new.me.0 ≡ record client.old.me.0 { seen = client.new.me.0.seen; client = sending client.old.me.0.client request }) }

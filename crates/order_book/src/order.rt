@@ -219,6 +219,27 @@ impl<B: BoardName> Order<B> {
         self.cache.held_blocks()
     }
 
+    /// The seat that raises the accepted number, which knows the history. What memory holds is let go.
+    pub fn into_seat(self) -> OrderSeat<B>
+        ensures history { result.history ≡ self.history }
+        ensures mark { result.accepted ≡ self.mark }
+    {
+        let Order {
+            opening: _,
+            durable: _,
+            sealed: _,
+            mark: _,
+            in_hand: _,
+            pending: _,
+            backlog: _,
+            cache: _,
+            area: _,
+            stopped: _,
+            seat,
+        } = self;
+        seat
+    }
+
     /// Refuses all commands from now on.
     pub fn stop(&mut self)
         ensures { self.new ≡ record self.old { stopped = true } }

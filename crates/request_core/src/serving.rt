@@ -147,7 +147,7 @@ pub fn serve_with_keeper<B: BoardName, D: Disk, T: Trust>(
     requires blocks { length order.old.cache.states ≡ terms.geometry.blocks }
     requires device { terms.geometry ≡ keeper.old.geometry }
     requires asked { T.logs → HasSent T.trusted T.image order.old request pass.old.client }
-    requires known { T.logs → T.trusted → IsKnownBy D.state D.honest keeper.old order.old (apply_all order.old.history T.image) }
+    requires known { T.logs → T.trusted → keeper.old.failed ≡ false → IsKnownBy D.state D.honest keeper.old order.old (apply_all order.old.history T.image) }
     ensures blocks { length order.new.cache.states ≡ length order.old.cache.states }
     ensures geometry { keeper.new.geometry ≡ keeper.old.geometry }
     ensures count { keeper.new.count ≡ keeper.old.count }
@@ -242,7 +242,7 @@ fn serve_edit<B: BoardName, D: Disk, T: Trust>(
     requires device { terms.geometry ≡ keeper.old.geometry }
     requires needs { NeedsOld order.old (edit_asked request) }
     requires asked { T.logs → HasSent T.trusted T.image order.old request pass.old.client }
-    requires known { T.logs → T.trusted → IsKnownBy D.state D.honest keeper.old order.old (apply_all order.old.history T.image) }
+    requires known { T.logs → T.trusted → keeper.old.failed ≡ false → IsKnownBy D.state D.honest keeper.old order.old (apply_all order.old.history T.image) }
     ensures blocks { length order.new.cache.states ≡ length order.old.cache.states }
     ensures geometry { keeper.new.geometry ≡ keeper.old.geometry }
     ensures count { keeper.new.count ≡ keeper.old.count }

@@ -9,10 +9,9 @@ use crate::client::Client;
 use crate::log::{Event, Log, Traffic};
 use bitflags::Flags;
 use disk_model::Disk;
-use export::{Export, ExportName, ReadBeside, SyncPoints};
+use export::{ClientPass, Export, ExportName, ReadBeside, SyncPoints};
 use export_model::Mode;
 use image_model::Geometry;
-use marks::Pass;
 use nbd_wire::{
     Answer, BLOCK_STATUS, CommandFlags, FLUSH, READ, Reply, Request, RequestHead, SessionFlags,
     TRIM, WRITE, WRITE_ZEROES,
@@ -55,7 +54,7 @@ pub struct RequestHandler<
 }
 
 impl<'a, B: ExportName, D: Disk, H: ReadBeside, R: Wait + Clock, L: SyncPoints + Log + Copy> Serve<
-    Pass<B>,
+    ClientPass<B>,
 > for RequestHandler<'a, B, D, H, R, L> {
     ghost allows = { λ handler pass request flags next reply. IsSubmitted B.opening B.image (Trusting B.opening B.image B.vouches B.trusted) request handler.export.now.mode pass next reply.answer
         × IsJudged (verdict request.head handler.export.now.geometry flags) request reply.answer
@@ -90,7 +89,7 @@ impl<'a, B: ExportName, D: Disk, H: ReadBeside, R: Wait + Clock, L: SyncPoints +
         let _ = self.client.limit_wait(self.idle_limit);
     }
 
-    fn serve(&self, pass: &mut Pass<B>, request: Request, flags: &SessionFlags) -> Reply {
+    fn serve(&self, pass: &mut ClientPass<B>, request: Request, flags: &SessionFlags) -> Reply {
         let head = request.head();
         self.count(&request, flags);
         self.wait_for_older(&head);

@@ -13,10 +13,10 @@ use crate::log::Log;
 use crate::worker::{Server, Task, WorkerPool};
 use disk_model::Disk;
 use export::{
-    Export, ExportName, OpenDevice, ReadBeside, RetiredPass, SyncPoints, opened_device_law,
+    ClientPass, Export, ExportName, OpenDevice, ReadBeside, RetiredPass, SyncPoints,
+    opened_device_law,
 };
 use front_end::{Refusal, ServeOptions};
-use marks::Pass;
 use negotiation::OfferedName;
 use std::alloc::Global;
 use std::io::{ErrorKind, Read};
@@ -181,7 +181,7 @@ fn open_export<B, D, H>(
     alloc: Global,
     device: OpenDevice<D, H>,
     options: &ServeOptions,
-) -> Result<(Export<B, D, H>, Vec<Pass<B>>, RetiredPass<B>), D>
+) -> Result<(Export<B, D, H>, Vec<ClientPass<B>>, RetiredPass<B>), D>
 where
     B: ExportName,
     D: Disk,

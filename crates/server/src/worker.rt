@@ -6,9 +6,8 @@ use crate::client_registry::{ClientRegistry, Session};
 use crate::log::{Event, Log, Traffic, Watched};
 use crate::request_handler::RequestHandler;
 use disk_model::Disk;
-use export::{Export, ExportFigures, ExportName, ReadBeside, RetiredPass, SyncPoints};
+use export::{ClientPass, Export, ExportFigures, ExportName, ReadBeside, RetiredPass, SyncPoints};
 use front_end::{OnFault, ServeOptions, WhenFull};
-use marks::Pass;
 use negotiation::{End, OfferedName, serve_session};
 use std::alloc::Global;
 use std::cell::Cell;
@@ -47,7 +46,7 @@ impl Sessions {
 pub(crate) struct WorkerPool<'a, B: ExportName> {
     alloc: Global,
     registry: &'a ClientRegistry,
-    passes: Mutex<Vec<Pass<B>>>,
+    passes: Mutex<Vec<ClientPass<B>>>,
     // That of the end, which the others join.
     last: Mutex<RetiredPass<B>>,
     // That of whoever has all stored, which may wait, and so isn't the one that figures are read by.
@@ -64,7 +63,7 @@ impl<'a, B: ExportName> WorkerPool<'a, B> {
         alloc: Global,
         registry: &'a ClientRegistry,
         export: &Export<B, D, H>,
-        passes: Vec<Pass<B>>,
+        passes: Vec<ClientPass<B>>,
         last: RetiredPass<B>,
         sessions: u64,
     ) -> WorkerPool<'a, B> {
@@ -91,7 +90,7 @@ impl<'a, B: ExportName> WorkerPool<'a, B> {
     }
 
     /// A pass that no worker has yet, and the slot for its clients.
-    pub(crate) fn take_pass<R: Wait>(&self, rt: &R) -> Option<(usize, Pass<B>)> {
+    pub(crate) fn take_pass<R: Wait>(&self, rt: &R) -> Option<(usize, ClientPass<B>)> {
         let mut passes = self.passes.lock(rt);
         match passes.pop() {
             Some(pass) => Some((passes.len(), pass)),
@@ -105,7 +104,7 @@ impl<'a, B: ExportName> WorkerPool<'a, B> {
         rt: &R,
         export: &Export<B, D, H>,
         slot: usize,
-        pass: Pass<B>,
+        pass: ClientPass<B>,
     ) -> bool {
         self.registry.retire(rt, slot);
         let left = export.leave(rt, pass);
@@ -283,14 +282,14 @@ impl<'a, B: ExportName, D: Disk, H: ReadBeside, R: Wait + Clock, G: SyncPoints +
     }
 
     /// Takes a pass for good. With the last one nobody asks for figures any more.
-    pub(crate) fn retire(&self, slot: usize, pass: Pass<B>) {
+    pub(crate) fn retire(&self, slot: usize, pass: ClientPass<B>) {
         if self.pool.retire(self.rt, self.export, slot, pass) {
             self.watch.end_answers();
         }
     }
 
     // Serves a client, and stores what is pending before the client is let go.
-    fn receive(&self, pass: &mut Pass<B>, session: &Session) {
+    fn receive(&self, pass: &mut ClientPass<B>, session: &Session) {
         self.watch.note(Event::Came {
             client: session.number,
             from: &session.client,
@@ -314,7 +313,12 @@ impl<'a, B: ExportName, D: Disk, H: ReadBeside, R: Wait + Clock, G: SyncPoints +
     }
 
     // Serves a client from the first byte to the last.
-    fn serve_client(&self, pass: &mut Pass<B>, session: &Session, told: &Told) -> Result<(), End> {
+    fn serve_client(
+        &self,
+        pass: &mut ClientPass<B>,
+        session: &Session,
+        told: &Told,
+    ) -> Result<(), End> {
         let client = &session.client;
         let limits = self.options.limits;
         let Ok(()) = client.limit_wait(limits.handshake()) else {

@@ -84,6 +84,21 @@ module _ (image : Image) (head : RequestHead) (old new : OrderState) (result : S
       (subst (λ (r : Served). ServesImage (apply_all old.history image) head r) (sym answer)
       (tells (apply_all old.history image) head (shown_by found head) (shown_same found (apply_all old.history image) head kinds bytes)))
 
+-- the image after the history is the order's own, for a keeper that hasn't failed, whose seat knows all of the order
+pub known_by : (opening : ℕ) (image : Image) (trusted : Type 0) (order : OrderState) → IsOrderOfHistory opening image trusted order → trusted
+    → {D : Type 0} (device : Type 0) → device → (state : D → State) (honest : D → Type 0) (seat : KeeperKnows) (keeper : KeeperState D) → IsOfHistory state honest opening image device seat keeper
+    → seat.history ≡ order.history → order.base ≤ keeper.base → keeper.failed ≡ false → IsKnownBy state honest keeper order (apply_all order.history image)
+known_by opening image trusted order is sure device so state honest seat keeper stored known base works = record {
+  sure = stored.sure so;
+  base = apply_all stored.copied image;
+  fronts = stored.fronts;
+  last = stored.last;
+  holds = stored.holds so works;
+  shows = is.shows sure;
+  clean = clean_at opening image trusted order is stored.copied (joined stored.fronts) stored.last
+      (subst (λ (h : List Change). IsPrefix ((stored.copied ++ joined stored.fronts) ++ stored.last) h) known stored.within) (omega (arith, base, stored.base));
+}
+
 -- an order of which it is trusted that it shows the image after its history
 module _ (opening : ℕ) (image : Image) (trusted : Type 0) (request : Message) (geometry : Geometry) (kept : Mode) (old new : OrderState) (is : IsOrderOfHistory opening image trusted old)
     (result : Served) (sure : trusted) where
@@ -169,16 +184,7 @@ module _ (opening : ℕ) (image : Image) (trusted : Type 0) (request : Message) 
       (known : seat.history ≡ old.history) (base : old.base ≤ keeper.base) where
     -- the image is the order's own, where the keeper hasn't failed
     own : keeper.failed ≡ false → IsKnownBy state honest keeper old after
-    own works = record {
-      sure = stored.sure so;
-      base = apply_all stored.copied image;
-      fronts = stored.fronts;
-      last = stored.last;
-      holds = stored.holds so works;
-      shows = is.shows sure;
-      clean = clean_at opening image trusted old is stored.copied (joined stored.fronts) stored.last
-          (subst (λ (h : List Change). IsPrefix ((stored.copied ++ joined stored.fronts) ++ stored.last) h) known stored.within) (omega (arith, base, stored.base));
-    }
+    own = known_by opening image trusted old is sure device so state honest seat keeper stored known base
 
     read_bytes : (read : IsRead state faults honest request.head old new keeper next result) → (keeper.failed ≡ true) ⊎ (keeper.failed ≡ false)
         → (k : ℕ) → k < request.head.length → read.image.byte (request.head.offset + k) ≡ after.byte (request.head.offset + k)

@@ -1,6 +1,7 @@
 mod Answering
 mod CleanBlocks
 mod Keeping
+mod Logging
 mod Noting
 mod Ordering
 mod Resting

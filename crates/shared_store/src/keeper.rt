@@ -9,11 +9,13 @@ ghost use Rattle.device_image.specs.Stands.{StandsFor};
 ghost use Rattle.disk_model.specs.Disk.{LeavesOnly, MayLeave};
 ghost use Rattle.export_model.specs.Verdict.{verdict};
 ghost use Rattle.export_model.specs.declared.action.Action.{Action};
+ghost use Rattle.image_model.specs.Image.{apply_all};
 ghost use Rattle.nbd_wire.specs.declared.error.Errno.{Errno};
+ghost use Rattle.order_book.specs.Edits.{IsKnownBy};
 ghost use Rattle.order_book.specs.Order.{PublishesTo, with_durable};
 ghost use Rattle.regions.specs.Layout.{area_size};
 ghost use Rattle.request_core.specs.Outcomes.{IsServedBy};
-ghost use Rattle.request_core.specs.Serving.{IsPassServed};
+ghost use Rattle.request_core.specs.Serving.{HasSent, IsClientServed, IsPassServed};
 ghost use Rattle.shared_store.specs.Keepers.{HasLeft, IsOfHistory};
 ghost use Rattle.shared_store.specs.Parts.{StandsWithin};
 ghost use Rattle.shared_store.specs.Back.{IsBack, IsFull};
@@ -22,7 +24,7 @@ use crate::group::SealedGroup;
 use crate::name::ImageName;
 use checkpoint::{Keeper, KeeperFault};
 use disk_model::Disk;
-use marks::{Board, KeeperSeat, Pass};
+use marks::{Board, KeeperSeat, Pass, Trust};
 use nbd_wire::Request;
 use order_book::Order;
 use request_core::{Served, Terms, serve_with_keeper};
@@ -92,8 +94,21 @@ impl<B: ImageName, D: Disk> SharedKeeper<B, D> {
         keeper
     }
 
+    /// The keeper, as it is, and its seat.
+    pub(crate) fn into_parts(self) -> (Keeper<D>, KeeperSeat<B>)
+        ensures keeper { result.0 ≡ self.keeper }
+        ensures seat { result.1 ≡ self.seat }
+    {
+        let SharedKeeper { seat, keeper } = self;
+        (keeper, seat)
+    }
+
     /// Stores a sealed group behind all that is stored; one that may be stored later comes back.
-    pub fn append(&mut self, board: &Board<B>, sealed: SealedGroup<B>) -> Result<(), Unstored<B>>
+    pub fn append<T: Trust>(
+        &mut self,
+        board: &Board<B, T>,
+        sealed: SealedGroup<B>,
+    ) -> Result<(), Unstored<B>>
         ensures ok { OnOk result (self.new.keeper ≡ grown_by self.old.keeper sealed.group self.new.keeper.disk self.new.keeper.memory) }
         ensures told { OnOk result (IsPrefix sealed.told self.new.seat.history) }
         ensures full { IsErrAnd result IsFull ↔ ((self.old.keeper.failed ≡ false) × (area_size self.old.keeper.geometry < end_after self.old.keeper sealed.group)) }
@@ -127,7 +142,7 @@ impl<B: ImageName, D: Disk> SharedKeeper<B, D> {
     }
 
     /// Makes durable in the order what is stored.
-    pub fn publish(&mut self, board: &Board<B>, order: &mut Order<B>)
+    pub fn publish<T: Trust>(&mut self, board: &Board<B, T>, order: &mut Order<B>)
         ensures order { order.new ≡ with_durable order.old self.old.keeper.count }
         ensures keeper { self.new.keeper ≡ self.old.keeper }
         ensures seat { PublishesTo self.old.seat order.old self.old.keeper.count self.new.seat }
@@ -193,7 +208,7 @@ impl<B: ImageName, D: Disk> SharedKeeper<B, D> {
     }
 
     /// Lets the first area go: map and data hold what it did, and the base is raised to its end. Refusals as of [`Keeper::finish`].
-    pub fn finish(&mut self, board: &Board<B>) -> Result<(), KeeperFault>
+    pub fn finish<T: Trust>(&mut self, board: &Board<B, T>) -> Result<(), KeeperFault>
         ensures ok { OnOk result (self.new.keeper ≡ finished_by self.old.keeper self.new.keeper.disk self.new.keeper.memory) }
         ensures err { IfErr result (λ fault. self.new.keeper ≡ refused_by fault self.old.keeper self.new.keeper.disk) }
         ensures failed { (result ≡ Err KeeperFault.Failed) ↔ IsTrue self.old.keeper.failed }
@@ -218,7 +233,7 @@ impl<B: ImageName, D: Disk> SharedKeeper<B, D> {
 
 impl<B: ImageName, D: Disk> SharedKeeper<B, D> {
     /// Meets the order: what is stored begins its history, and the base is no less than the one that it knows.
-    pub fn meet(&mut self, board: &Board<B>, order: &mut Order<B>)
+    pub fn meet<T: Trust>(&mut self, board: &Board<B, T>, order: &mut Order<B>)
         ensures order { order.new ≡ order.old }
         ensures keeper { self.new.keeper ≡ self.old.keeper }
         ensures history { self.new.seat.history ≡ order.old.history }
@@ -230,7 +245,7 @@ impl<B: ImageName, D: Disk> SharedKeeper<B, D> {
     }
 
     /// Tells the order the base.
-    pub fn tell_base(&mut self, board: &Board<B>, order: &mut Order<B>)
+    pub fn tell_base<T: Trust>(&mut self, board: &Board<B, T>, order: &mut Order<B>)
         ensures order { order.new ≡ record order.old { base = max order.old.base self.old.keeper.base } }
         ensures same { self.new ≡ self.old }
     {
@@ -239,7 +254,7 @@ impl<B: ImageName, D: Disk> SharedKeeper<B, D> {
 
     /// Meets a pass: what it knows begins the history too, and what it knows to be durable is stored. Whatever a crash may leave of the
     /// device now stands for the image after a beginning of that history, with all of this.
-    pub fn meet_pass(&mut self, board: &Board<B>, pass: &mut Pass<B>)
+    pub fn meet_pass<T: Trust>(&mut self, board: &Board<B, T>, pass: &mut Pass<B>)
         ensures keeper { self.new.keeper ≡ self.old.keeper }
         ensures seen { IsPrefix self.old.seat.history self.new.seat.history }
         ensures known { IsPrefix pass.old.history self.new.seat.history }
@@ -255,24 +270,27 @@ impl<B: ImageName, D: Disk> SharedKeeper<B, D> {
     }
 
     /// Serves a request that isn't a DISC, with the keeper.
-    pub(crate) fn serve(
+    pub(crate) fn serve<T: Trust>(
         &mut self,
         alloc: Global,
         request: Request,
         order: &mut Order<B>,
-        board: &Board<B>,
+        board: &Board<B, T>,
         pass: &mut Pass<B>,
         terms: Terms,
     ) -> Served
         requires kind { request.head.kind ≢ 2 }
         requires blocks { length order.old.cache.states ≡ terms.geometry.blocks }
         requires device { terms.geometry ≡ self.old.keeper.geometry }
+        requires asked { T.logs → HasSent T.trusted T.image order.old request pass.old.client }
+        requires known { T.logs → T.trusted → self.old.keeper.failed ≡ false → IsKnownBy D.state D.honest self.old.keeper order.old (apply_all order.old.history T.image) }
         ensures geometry { self.new.keeper.geometry ≡ self.old.keeper.geometry }
         ensures count { self.new.keeper.count ≡ self.old.keeper.count }
         ensures blocks { length order.new.cache.states ≡ length order.old.cache.states }
         ensures serves { (given : Result Action Errno) × (given ≡ verdict request.head terms.geometry terms.flags)
             × IsServedBy D.state D.faults D.honest given request terms.geometry terms.mode order.old order.new self.old.keeper self.new.keeper result }
         ensures pass { IsPassServed B.opening request order.old.mark order.new.mark result pass.old pass.new }
+        ensures client { IsClientServed T.mode request order.old.mark order.new.mark result pass.old.client pass.new.client }
         ensures grown { order.old.mark < order.new.mark → pass.new.history ≡ order.new.history }
         ensures seat { self.new.seat ≡ self.old.seat }
         ensures any_moment { B.trusted → LeavesOnly (D.state self.old.keeper.disk) (D.state self.new.keeper.disk)

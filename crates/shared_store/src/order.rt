@@ -2,6 +2,7 @@ ghost use Rattle.std.specs.Prelude.{◌≡◌, ◌≢◌, ◌*◌, ◌+◌, ◌/
 ghost use mathlib.Core.List.{IsPrefix};
 ghost use Rattle.disk_model.specs.Disk.{LeavesOnly, MayLeave};
 ghost use Rattle.export_model.specs.Log.{edit_asked};
+ghost use Rattle.export_model.specs.OneLog.{IsOneLog};
 ghost use Rattle.export_model.specs.Verdict.{verdict};
 ghost use Rattle.export_model.specs.declared.action.Action.{Action};
 ghost use Rattle.image_model.specs.Edit.{becomes, blocks_met};
@@ -13,18 +14,20 @@ ghost use Rattle.order_book.specs.Order.{IsInHand, Seals, new_order, with_clean,
 ghost use Rattle.order_book.specs.Shown.{ShowsImage};
 ghost use Rattle.request_core.specs.Outcomes.{IsServedBy, IsServedHere, NeedsDevice};
 ghost use Rattle.request_core.specs.Reading.{IsPlanned, IsReadOverServed};
-ghost use Rattle.request_core.specs.Serving.{IsPassServed};
+ghost use Rattle.request_core.specs.Serving.{IsClientServed, IsPassServed};
 ghost use Rattle.order_book.specs.declared.fault.OrderFault.TheVariants as OrderFault;
 ghost use Rattle.shared_store.specs.Keepers.{HasLeft};
 ghost use Rattle.shared_store.specs.Answers.{ServesImage};
+ghost use Rattle.shared_store.specs.Logs.{IsAt, IsLogOf};
 ghost use Rattle.shared_store.specs.Orders.{Trusting};
 ghost use Rattle.shared_store.specs.Parts.{StandsWithin};
 
 use crate::group::SealedGroup;
 use crate::keeper::SharedKeeper;
 use crate::name::ImageName;
+use checkpoint::Keeper;
 use disk_model::Disk;
-use marks::{Board, Pass};
+use marks::{Board, Pass, Roster, Trust};
 use nbd_wire::{Request, RequestHead};
 use order_book::{Order, OrderFault, Span};
 use request_core::{NeedsKeeper, Served, Terms, serve_held, serve_read_over};
@@ -86,7 +89,7 @@ impl<B: ImageName> SharedOrder<B> {
 
     /// The number of the last command that was accepted, shown to a pass with the history: what memory shows is the image after
     /// that.
-    pub fn show(&mut self, board: &Board<B>, pass: &mut Pass<B>) -> u64
+    pub fn show<T: Trust>(&mut self, board: &Board<B, T>, pass: &mut Pass<B>) -> u64
         ensures mark { result ≡ self.old.mark }
         ensures place { result ≡ B.opening + length self.old.history }
         ensures same { self.new ≡ self.old }
@@ -101,16 +104,18 @@ impl<B: ImageName> SharedOrder<B> {
 
 impl<B: ImageName> SharedOrder<B> {
     /// Serves a request that isn't a DISC, as far as no keeper is needed.
-    pub fn serve(
+    pub fn serve<T: Trust>(
         &mut self,
         alloc: Global,
         request: Request,
-        board: &Board<B>,
+        board: &Board<B, T>,
         pass: &mut Pass<B>,
         terms: Terms,
     ) -> Result<Served, NeedsKeeper>
         requires kind { request.head.kind ≢ 2 }
         requires blocks { length self.old.cache.states ≡ terms.geometry.blocks }
+        requires log { T.logs → IsLogOf B.opening B.image B.vouches B.trusted terms.mode T.trusted T.mode T.image }
+        requires asked { T.logs → IsAt request pass.old.client }
         ensures blocks { length self.new.cache.states ≡ length self.old.cache.states }
         ensures noted { self.new.base ≡ self.old.base }
         ensures serves { IfOk result (λ served. IsServedHere (verdict request.head terms.geometry terms.flags) request terms.geometry terms.mode self.old self.new served) }
@@ -118,6 +123,7 @@ impl<B: ImageName> SharedOrder<B> {
         ensures handed_back { IfErr result (λ back. back.0 ≡ request) }
         ensures unchanged { OnErr result ((self.new ≡ self.old) × (pass.new ≡ pass.old)) }
         ensures pass { IfOk result (λ served. IsPassServed B.opening request self.old.mark self.new.mark served pass.old pass.new) }
+        ensures client { IfOk result (λ served. IsClientServed T.mode request self.old.mark self.new.mark served pass.old.client pass.new.client) }
         ensures shows { Trusting B.opening B.image B.vouches B.trusted (ShowsImage (apply_all self.old.history B.image) self.old.cache) }
 
         // Bytes and states are those of the image after the history. A command that was accepted is what the request's edit becomes
@@ -157,18 +163,20 @@ impl<B: ImageName> SharedOrder<B> {
     }
 
     /// Serves a request that isn't a DISC, with the keeper.
-    pub fn serve_with<D: Disk>(
+    pub fn serve_with<D: Disk, T: Trust>(
         &mut self,
         alloc: Global,
         request: Request,
         keeper: &mut SharedKeeper<B, D>,
-        board: &Board<B>,
+        board: &Board<B, T>,
         pass: &mut Pass<B>,
         terms: Terms,
     ) -> Served
         requires kind { request.head.kind ≢ 2 }
         requires blocks { length self.old.cache.states ≡ terms.geometry.blocks }
         requires device { terms.geometry ≡ keeper.old.keeper.geometry }
+        requires log { T.logs → IsLogOf B.opening B.image B.vouches B.trusted terms.mode T.trusted T.mode T.image }
+        requires asked { T.logs → IsAt request pass.old.client }
         ensures blocks { length self.new.cache.states ≡ length self.old.cache.states }
         ensures noted { self.new.base ≡ self.old.base }
         ensures geometry { keeper.new.keeper.geometry ≡ keeper.old.keeper.geometry }
@@ -176,6 +184,7 @@ impl<B: ImageName> SharedOrder<B> {
         ensures serves { (given : Result Action Errno) × (given ≡ verdict request.head terms.geometry terms.flags)
             × IsServedBy D.state D.faults D.honest given request terms.geometry terms.mode self.old self.new keeper.old.keeper keeper.new.keeper result }
         ensures pass { IsPassServed B.opening request self.old.mark self.new.mark result pass.old pass.new }
+        ensures client { IsClientServed T.mode request self.old.mark self.new.mark result pass.old.client pass.new.client }
         ensures tells { Trusting B.opening B.image B.vouches B.trusted (ServesImage (apply_all self.new.history B.image) request.head result) }
         ensures over { Trusting B.opening B.image B.vouches B.trusted (self.old.mark < self.new.mark
             → pass.new.history ≡ self.old.history ++ becomes (edit_asked request) (apply_all self.old.history B.image) ∷ []) }
@@ -189,7 +198,10 @@ impl<B: ImageName> SharedOrder<B> {
 
 impl<B: ImageName> SharedOrder<B> {
     /// The longest beginning of the pending commands that a group may hold, which stands in the history. Refusal 0 (no memory).
-    pub fn seal(&mut self, board: &Board<B>) -> Result<Option<SealedGroup<B>>, OrderFault>
+    pub fn seal<T: Trust>(
+        &mut self,
+        board: &Board<B, T>,
+    ) -> Result<Option<SealedGroup<B>>, OrderFault>
         ensures group { IfOk result (λ sealed. IfSome sealed (λ group. Seals self.old self.new group.group × (group.told ≡ self.old.history))) }
         ensures in_hand { IfOk result (λ sealed. IfSome sealed (λ group. IsInHand self.new group.group)) }
         ensures none { (result ≡ Ok None) ↔ ((self.old.pending ≡ []) ⊎ (self.old.durable < self.old.sealed)) }
@@ -205,9 +217,9 @@ impl<B: ImageName> SharedOrder<B> {
     }
 
     /// Makes a group pending again, the last that was sealed; another one comes back.
-    pub fn put_back(
+    pub fn put_back<T: Trust>(
         &mut self,
-        board: &Board<B>,
+        board: &Board<B, T>,
         sealed: SealedGroup<B>,
     ) -> Result<(), SealedGroup<B>>
         ensures taken { OnOk result (IsInHand self.old sealed.group × (self.new ≡ with_group self.old sealed.group)) }
@@ -224,7 +236,11 @@ impl<B: ImageName> SharedOrder<B> {
     }
 
     /// Makes durable what the keeper has stored.
-    pub fn publish<D: Disk>(&mut self, board: &Board<B>, keeper: &mut SharedKeeper<B, D>)
+    pub fn publish<D: Disk, T: Trust>(
+        &mut self,
+        board: &Board<B, T>,
+        keeper: &mut SharedKeeper<B, D>,
+    )
         ensures order { self.new ≡ with_durable self.old keeper.old.keeper.count }
         ensures noted { self.new.base ≡ self.old.base }
         ensures keeper { keeper.new.keeper ≡ keeper.old.keeper }
@@ -234,9 +250,9 @@ impl<B: ImageName> SharedOrder<B> {
 
     /// Keeper and pass meet the order: the pass knows all of the history then. Whatever a crash may leave of the device now stands for
     /// the image after a beginning of that, with all that the pass knows to be durable. It gives the order's last number.
-    pub fn meet_all<D: Disk>(
+    pub fn meet_all<D: Disk, T: Trust>(
         &mut self,
-        board: &Board<B>,
+        board: &Board<B, T>,
         keeper: &mut SharedKeeper<B, D>,
         pass: &mut Pass<B>,
     ) -> u64
@@ -258,7 +274,7 @@ impl<B: ImageName> SharedOrder<B> {
     }
 
     /// Makes the dirty blocks clean that map and data hold: their frames can be let go.
-    pub fn clean<D: Disk>(&mut self, board: &Board<B>, keeper: &mut SharedKeeper<B, D>)
+    pub fn clean<D: Disk, T: Trust>(&mut self, board: &Board<B, T>, keeper: &mut SharedKeeper<B, D>)
         ensures order { self.new ≡ with_clean (record self.old { base = max self.old.base keeper.old.keeper.base }) keeper.old.keeper.base }
         ensures noted { self.new.base ≡ keeper.old.keeper.base }
         ensures keeper { keeper.new.keeper ≡ keeper.old.keeper }
@@ -266,5 +282,27 @@ impl<B: ImageName> SharedOrder<B> {
         keeper.meet(board, &mut self.order);
         keeper.tell_base(board, &mut self.order);
         self.order.clean(keeper.keeper());
+    }
+}
+
+impl<B: ImageName> SharedOrder<B> {
+    /// The end of the board, to which order and keeper give their seats back; the keeper is as it was. If there was a log, it is one of just
+    /// the order's history, and whatever a crash may leave of a trusted device has all that the log covers.
+    pub fn close<D: Disk, T: Trust>(
+        self,
+        board: Board<B, T>,
+        keeper: SharedKeeper<B, D>,
+        roster: Roster<B>,
+    ) -> Keeper<D>
+        ensures keeper { result ≡ keeper.keeper }
+        ensures log { T.logs → (durable : ℕ) × IsOneLog T.trusted T.mode T.image self.history durable roster
+            × (B.trusted → (content : List ℕ) → MayLeave (D.state keeper.keeper.disk) content → StandsWithin B.opening B.image self.history (B.opening + durable) content) }
+    {
+        let SharedOrder { mut order } = self;
+        let mut keeper = keeper;
+        keeper.meet(&board, &mut order);
+        let (keeper, seat) = keeper.into_parts();
+        board.close(order.into_seat(), seat, roster);
+        keeper
     }
 }

@@ -15,9 +15,11 @@ use Rattle.nbd_wire.specs.declared.message.SessionFlags.{SessionFlags}
 use Rattle.request_core.specs.Serving.{ready_for}
 use Rattle.request_core.specs.declared.serving.Served.{Served}
 use Rattle.request_core.specs.declared.serving.Served.TheVariants as served
+use Rattle.export_model.specs.Answers.{MayAnswer}
 use Rattle.export_model.specs.Log.{is_flush, is_write}
 use Rattle.export_model.specs.Verdict.{verdict}
 use Rattle.export_model.specs.declared.action.Action.TheVariants.{Serve}
+use Rattle.export_model.specs.declared.connection.Connection.TheVariants.{Waiting}
 use Rattle.export_model.specs.declared.step.Mode.{Mode}
 use Rattle.export.specs.Submits.{IsAccepted, IsSubmitted, IsJudged}
 
@@ -29,6 +31,14 @@ IsServedFor opening first Sure request kept old new (served.Wait number) =
     × (is_flush request ≡ false → (is_write request ≡ true) × IsAccepted opening first Sure request number old new)
     × (old.durable ≤ new.durable)
 IsServedFor opening first Sure request kept old new (served.NoRoom back) = (new ≡ old) × (back ≡ request)
+
+-- What a client is at once its request was served: nothing was logged of it, and where there is a log it may be given the answer, or
+-- waits for the number.
+abbrev pub IsClientFor : Type 0 → Type 0 → Image → PassState → PassState → Served → Type 0
+IsClientFor logs trusted image old new (served.Ready reply) =
+    (new.client ≡ record old.client { state = new.client.state }) × (logs → MayAnswer trusted image new.durable new.history new.client.state reply.answer)
+IsClientFor logs trusted image old new (served.Wait number) = (new.client ≡ record old.client { state = new.client.state }) × (logs → new.client.state ≡ Waiting number)
+IsClientFor logs trusted image old new (served.NoRoom back) = Unit {0}
 
 -- whether bytes or states were answered, which are an image's
 abbrev pub is_of_image : Answer → Bool
@@ -72,5 +82,6 @@ pub record IsWaitedFor (number : ℕ) (old new : PassState) (answer : Answer) : 
   pub answered : (answer ≡ Done) ⊎ (answer ≡ Refused Io)
   pub done : answer ≡ Done → number ≤ new.durable
   pub own : new.own ≡ old.own
+  pub client : new.client ≡ old.client
   pub knew : IsPrefix old.history new.history
   pub lasts : old.durable ≤ new.durable

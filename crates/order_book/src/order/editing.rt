@@ -196,7 +196,7 @@ impl<B: BoardName> Order<B> {
         requires few { length self.old.cache.states ≤ 16777216 }
         requires device { offset_of (edit_of edit) + count_of (edit_of edit) ≤ 4096 * keeper.old.geometry.blocks }
         requires asked { T.logs → HasAskedEdit T.trusted T.image self.old (edit_of edit) pass.old.client }
-        requires known { T.logs → T.trusted → IsKnownBy D.state D.honest keeper.old self.old (apply_all self.old.history T.image) }
+        requires known { T.logs → T.trusted → keeper.old.failed ≡ false → IsKnownBy D.state D.honest keeper.old self.old (apply_all self.old.history T.image) }
         ensures number { IfOk result (λ number. number ≡ self.old.mark + 1) }
 
         // The command is what the edit becomes over an image that memory shows: over each of them where the device isn't needed, and

@@ -1,9 +1,9 @@
-use Rattle.std.proofs.Common.{◌≡◌, ◌∙◌, ◌+◌, ℕ, List, [], ◌∷◌, ◌++◌, length, replicate, ap, sym, arith}
-use Rattle.std.proofs.lemmas.List.{length-replicate}
+use Rattle.std.proofs.Common.{◌≡◌, ◌∙◌, ℕ, zero, suc, [], ◌∷◌, length, length-append, ap, arith, refl, sym}
 use Rattle.image_model.specs.Layout.{area_size_of}
-use Rattle.marks.specs.Known.{PassState, new_pass}
+use Rattle.marks.specs.Known.{new_pass}
 use Rattle.order_book.specs.Order.{OrderState, new_order}
 use Rattle.export.proofs.Lists.{popped}
+use Rattle.export.specs.Clients.{new_client_pass, new_client_passes}
 use Rattle.export.proofs.export.open_parts.Goals as goal
 
 pub new-requires-clause-fresh : goal.new-requires-clause-fresh
@@ -41,22 +41,19 @@ returns-clause-noted g c =
     let (states, size, is) = c.in_ok-order.ensures.order in
     ap (λ (o : OrderState). o.base) (c.new.ensures ∙ is)
 
--- the passes without the last of them
-left : (all front : List PassState) (last : PassState) (opening start count workers : ℕ) → all ≡ front ++ last ∷ [] → all ≡ replicate count (new_pass opening) → count ≡ workers + 1 → opening ≡ start
-    → (front ≡ replicate workers (new_pass start)) × (last ≡ new_pass start)
-left all front last opening start count workers ends are is same = popped all front last (new_pass start) count workers ends (are ∙ ap (λ (n : ℕ). replicate count (new_pass n)) same) is
+length_all : (opening count : ℕ) → length (new_client_passes opening count) ≡ count
+length_all opening zero = refl
+length_all opening (suc count) = omega (arith, length-append (new_client_passes opening count) (new_client_pass opening count ∷ []), length_all opening count)
 
 pub returns-clause-passes : goal.returns-clause-passes
 returns-clause-passes g c =
-    let made = c.in_ok-board.field-0.passes in let size = ap length c.in_ok-board.ensures.passes in let count = c.in-Some.ensures.1 in let one = c.in-Some-pop.ensures.cases in
-    omega (arith, made.ok.0, size, count, one, length-replicate c.in-Some.count (new_pass c.args.blank.opening))
+    let made = c.in_ok-passes.passes in let size = ap length c.in_ok-passes.ensures.passes in
+    omega (arith, made.ok.0, size, length_all g.B.BoardName.opening c.args.workers)
 
 pub returns-clause-known : goal.returns-clause-known
-returns-clause-known g c =
-    (left c.in_ok-board.field-0.passes.items c.pop.new.self.items c.in-Some-pop.last c.args.blank.opening c.args.keeper.now.count c.in-Some.count c.args.workers
-    c.in-Some-pop.ensures.items c.in_ok-board.ensures.passes c.in-Some.ensures.1 c.requires.opening).0
+returns-clause-known g c = c.in_ok-passes.ensures.passes ∙ ap (λ (n : ℕ). new_client_passes n c.args.workers) (sym c.requires.named ∙ c.requires.opening)
 
 pub returns-clause-last : goal.returns-clause-last
 returns-clause-last g c =
-    (left c.in_ok-board.field-0.passes.items c.pop.new.self.items c.in-Some-pop.last c.args.blank.opening c.args.keeper.now.count c.in-Some.count c.args.workers
-    c.in-Some-pop.ensures.items c.in_ok-board.ensures.passes c.in-Some.ensures.1 c.requires.opening).1
+    (popped c.in_ok-board.field-0.passes.items c.pop.new.self.items c.in-Some.last (new_pass c.args.blank.opening) 1 0 c.in-Some.ensures.items c.in_ok-board.ensures.passes refl).1
+    ∙ ap new_pass c.requires.opening

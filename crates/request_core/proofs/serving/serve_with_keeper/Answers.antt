@@ -204,5 +204,5 @@ serve_edit-requires-clause-asked g c = λ kept.
     (subst (λ (p : PassState). HasSent g.T.Trust.trusted g.T.Trust.image c.args.order.now c.args.request p.client) (sym c.in-Err-2.ensures.unchanged.1) (c.requires.asked kept)))
 
 pub serve_edit-requires-clause-known : goal.serve_edit-requires-clause-known
-serve_edit-requires-clause-known g c = λ kept trusted.
-    subst (λ (o : OrderState). IsKnownBy g.D.Disk.state g.D.Disk.honest c.args.keeper.now o (apply_all o.history g.T.Trust.image)) (sym c.in-Err-2.ensures.unchanged.0) (c.requires.known kept trusted)
+serve_edit-requires-clause-known g c = λ kept trusted works.
+    subst (λ (o : OrderState). IsKnownBy g.D.Disk.state g.D.Disk.honest c.args.keeper.now o (apply_all o.history g.T.Trust.image)) (sym c.in-Err-2.ensures.unchanged.0) (c.requires.known kept trusted works)

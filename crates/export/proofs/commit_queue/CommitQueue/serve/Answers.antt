@@ -2,6 +2,7 @@ use Rattle.std.proofs.Common.{◌<◌, ◌≤◌, refl, subst, sym}
 use Rattle.std.specs.List.{sum}
 use Rattle.order_book.specs.Order.{OrderState}
 use Rattle.export.proofs.Bounded.{here_bounded}
+use Rattle.export.proofs.Clients.{client_for, comes_here, shown_client}
 use Rattle.export.proofs.Fits.{here_fits, writes}
 use Rattle.export.proofs.Submits.{served_for}
 use Rattle.export.proofs.Told.{shown_for, told}
@@ -38,3 +39,13 @@ returns-clause-bounded g c =
 
 pub returns-then-exceeds_loss-clause-tells : goal.returns-then-exceeds_loss-clause-tells
 returns-then-exceeds_loss-clause-tells g c = anyway g.B.BoardName.opening g.B.ImageName.image g.B.ImageName.vouches g.B.ImageName.trusted tt
+
+pub returns-clause-client : goal.returns-clause-client
+returns-clause-client g c =
+    let request = c.args.request in let terms = c.args.terms in let served = c.in_ok-served.served in let order = c.serve.new.self in let call = c.in_ok-served.ensures in let given = verdict request.head terms.geometry terms.flags in
+    client_for g.T.Trust.logs g.T.Trust.trusted g.B.BoardName.opening g.B.ImageName.image g.T.Trust.image g.B.ImageName.vouches g.B.ImageName.trusted terms.mode g.T.Trust.mode c.requires.log
+    request terms.flags terms.geometry c.args.pass.now c.show.new.pass c.requires.asked c.serve.new.pass c.args.self.now.order.mark order.mark served call.client
+    (shown_client order.history order.mark served c.serve.new.pass c.show.new.pass c.show.ensures.pass)
+    (comes_here request terms.geometry terms.mode c.args.self.now.order order served given call.serves)
+    (here_fits request terms.geometry terms.flags terms.mode c.args.self.now.order order served given refl call.serves)
+    (trusting g.B.BoardName.opening g.B.ImageName.image g.B.ImageName.vouches g.B.ImageName.trusted (told g.B.ImageName.image request.head order.history order.mark c.serve.new.pass c.show.new.pass served c.show.ensures.pass) call.tells)

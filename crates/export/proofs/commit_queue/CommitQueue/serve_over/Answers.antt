@@ -7,6 +7,7 @@ use Rattle.request_core.specs.Reading.{IsReadOverServed}
 use Rattle.shared_store.specs.Answers.{ServesImage}
 use Rattle.shared_store.specs.Orders.{Trusting}
 use Rattle.shared_store.specs.laws.Trust.{trusting}
+use Rattle.export.proofs.Clients.{over_client_for, shown_client}
 use Rattle.export.proofs.Fits.{over_fits}
 use Rattle.export.proofs.Given.{given_same}
 use Rattle.export.proofs.Submits.{over_served_for}
@@ -78,8 +79,21 @@ returns-in_err-served-clause-rest g c = (refl, refl, refl, refl, refl, refl, ref
 
 pub returns-then-planned-self : goal.returns-then-planned-self
 returns-then-planned-self g c =
-    record { served = tt; tells = tt; fits = tt; size = c.requires.size; settled = refl; over = tt; let_go = λ other. refl; unchanged = (refl, refl); rest = (refl, refl, refl, refl, refl, refl, refl, refl, refl, refl, refl, refl, refl, refl, refl, refl) }
+    record { served = tt; client = tt; tells = tt; fits = tt; size = c.requires.size; settled = refl; over = tt; let_go = λ other. refl; unchanged = (refl, refl); rest = (refl, refl, refl, refl, refl, refl, refl, refl, refl, refl, refl, refl, refl, refl, refl, refl) }
 
 pub returns-then-not-is_vouched : goal.returns-then-not-is_vouched
 returns-then-not-is_vouched g c =
-    record { served = tt; tells = tt; fits = tt; size = c.requires.size; settled = refl; over = tt; let_go = λ other. refl; unchanged = (refl, refl); rest = (refl, refl, refl, refl, refl, refl, refl, refl, refl, refl, refl, refl, refl, refl, refl, refl) }
+    record { served = tt; client = tt; tells = tt; fits = tt; size = c.requires.size; settled = refl; over = tt; let_go = λ other. refl; unchanged = (refl, refl); rest = (refl, refl, refl, refl, refl, refl, refl, refl, refl, refl, refl, refl, refl, refl, refl, refl) }
+
+pub returns-clause-client : goal.returns-clause-client
+returns-clause-client g c =
+    let request = c.args.request.now in let terms = c.args.terms.now in let order = c.serve_over.new.self in let served = c.in_ok-served.served in let image = g.B.ImageName.image in let pass = c.args.pass.now in
+    let read = subst (λ (head : RequestHead). IsReadOverServed head c.args.planned.span c.args.bytes.items c.args.self.now.order order served) c.head-head.ensures c.in_ok-served.ensures.read in
+    over_client_for g.T.Trust.logs g.T.Trust.trusted g.B.BoardName.opening image g.T.Trust.image g.B.ImageName.vouches g.B.ImageName.trusted terms.mode g.T.Trust.mode c.requires.log
+    request terms.flags terms.geometry pass c.show.new.pass c.requires.asked c.args.planned.span c.args.bytes.items c.args.self.now.order order served
+    (shown_client order.history order.mark served pass c.show.new.pass c.show.ensures.pass) read
+    (over_fits request terms.geometry terms.flags c.args.planned.span c.args.bytes.items c.args.self.now.order order served c.requires.planned.passes c.requires.planned.reads read)
+    (trusting g.B.BoardName.opening image g.B.ImageName.vouches g.B.ImageName.trusted
+    (λ (is : ServesImage (apply_all order.history image) c.head-head.result served).
+    told image request.head order.history order.mark pass c.show.new.pass served c.show.ensures.pass
+    (subst (λ (head : RequestHead). ServesImage (apply_all order.history image) head served) c.head-head.ensures is)) c.in_ok-served.ensures.tells)

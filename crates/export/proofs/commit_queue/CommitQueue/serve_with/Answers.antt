@@ -2,6 +2,7 @@ use Rattle.std.proofs.Common.{◌∙◌, ◌<◌, ◌≤◌, subst, sym}
 use Rattle.std.specs.List.{sum}
 use Rattle.order_book.specs.Order.{OrderState}
 use Rattle.export.proofs.Bounded.{with_bounded}
+use Rattle.export.proofs.Clients.{client_for, comes_with, shown_client}
 use Rattle.export.proofs.Fits.{with_fits, writes}
 use Rattle.export.proofs.Submits.{served_with}
 use Rattle.export.proofs.Told.{shown_for, told}
@@ -40,3 +41,15 @@ returns-clause-bounded g c =
 
 pub returns-then-exceeds_loss-clause-tells : goal.returns-then-exceeds_loss-clause-tells
 returns-then-exceeds_loss-clause-tells g c = anyway g.B.BoardName.opening g.B.ImageName.image g.B.ImageName.vouches g.B.ImageName.trusted tt
+
+pub returns-clause-client : goal.returns-clause-client
+returns-clause-client g c =
+    let (given, given_is, by) = c.serve_with-served.ensures.serves in
+    let request = c.args.request in let terms = c.args.terms in let served = c.serve_with-served.result in let order = c.serve_with-served.new.self in let mid = c.serve_with-served.new.pass in let call = c.serve_with-served.ensures in
+    let keeper = c.args.keeper.now.keeper in let next = c.serve_with-served.new.keeper.keeper in
+    client_for g.T.Trust.logs g.T.Trust.trusted g.B.BoardName.opening g.B.ImageName.image g.T.Trust.image g.B.ImageName.vouches g.B.ImageName.trusted terms.mode g.T.Trust.mode c.requires.log
+    request terms.flags terms.geometry c.args.pass.now c.show.new.pass c.requires.asked mid c.args.self.now.order.mark order.mark served call.client
+    (shown_client order.history order.mark served mid c.show.new.pass c.show.ensures.pass)
+    (comes_with request terms.geometry terms.mode c.args.self.now.order order served g.D.Disk.state g.D.Disk.faults g.D.Disk.honest keeper next given by)
+    (with_fits request terms.geometry terms.flags terms.mode c.args.self.now.order order served g.D.Disk.state g.D.Disk.faults g.D.Disk.honest keeper next given (sym given_is) by)
+    (trusting g.B.BoardName.opening g.B.ImageName.image g.B.ImageName.vouches g.B.ImageName.trusted (told g.B.ImageName.image request.head order.history order.mark mid c.show.new.pass served c.show.ensures.pass) call.tells)

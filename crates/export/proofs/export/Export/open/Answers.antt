@@ -8,4 +8,4 @@ pub new-requires-clause-image : goal.new-requires-clause-image
 new-requires-clause-image g c = λ sure. (c.requires.trusted sure).holds
 
 pub invariant_of-made : goal.invariant_of-made
-invariant_of-made g c = record { sized = c.geometry-geometry.ensures ∙ c.requires.geometry; vouched = λ handle is read vouches. ∣ c.requires.vouches handle is read vouches ∣₁ }
+invariant_of-made g c = record { sized = c.geometry-geometry.ensures ∙ c.requires.geometry; moded = c.new-log.ensures; vouched = λ handle is read vouches. ∣ c.requires.vouches handle is read vouches ∣₁ }

@@ -1,6 +1,6 @@
-use Rattle.std.proofs.Common.{◌≡◌, ◌≤◌, ◌/◌, ◌∙◌, length, refl, inl, inr, subst, sym}
+use Rattle.std.proofs.Common.{◌≡◌, ◌≤◌, ◌/◌, ◌∙◌, length, false, refl, inl, inr, subst, sym, ⊎_elim}
 use Rattle.std.specs.Bool.{IsTrue}
-use Rattle.std.proofs.lemmas.Bool.{true≢false}
+use Rattle.std.proofs.lemmas.Bool.{cases_Bool, true≢false}
 use Rattle.checkpoint.specs.Keeper.{refused_by}
 use Rattle.checkpoint.specs.declared.fault.KeeperFault.{KeeperFault}
 use Rattle.device_image.specs.Holds.{Holds, joined}
@@ -197,7 +197,11 @@ take_edit-requires-clause-asked g c = λ kept.
     let tail = c.read_old.new.tail in
     has_asked g.T.Trust.trusted g.T.Trust.image c.args.self.now edit c.args.pass.now.client _ (c.requires.asked kept)
     (λ trusted.
-    let known = c.requires.known kept trusted in
+    let needs = c.needs_device.ensures.0 c.if-not-needs_device.false in
+    let lacks = subst (λ (o : OrderState). LacksOld edit o.cache) (sym c.self.view_is) needs.lacks in
+    let works : c.args.keeper.now.failed ≡ false =
+    ⊎_elim (λ failed. absurd (ok_is_none tt KeeperFault.Failed (c.in-Ok.ensures.failed.1 (failed, lacks)))) (λ works. works) (cases_Bool c.args.keeper.now.failed) in
+    let known = c.requires.known kept trusted works in
     let image = apply_all c.args.self.now.history g.T.Trust.image in
     let same = subst (λ (o : OrderState). ShowsImage image o.cache → IsCleanAt known.base (joined known.fronts) image o.dirty → IsSameFor edit (image_with o.cache first head tail) image) c.self.view_is
     (λ given at. same_read edit known.base image (joined known.fronts) c.self.inside.cache first head tail given at (c.in-Ok.ensures.bytes known.sure known.base known.fronts known.last known.holds)) known.shows known.clean in

@@ -5,6 +5,7 @@ use Rattle.image_model.specs.Edit.{becomes}
 use Rattle.image_model.specs.Image.{apply_all}
 use Rattle.order_book.specs.Order.{OrderState}
 use Rattle.shared_store.proofs.Answering.{if_accepts, if_tells}
+use Rattle.shared_store.proofs.Logging.{has_sent}
 use Rattle.shared_store.proofs.Serving.{if_here}
 use Rattle.shared_store.proofs.Noting.{noted_here}
 use Rattle.shared_store.specs.Orders.{AreRight, Trusting}
@@ -39,3 +40,8 @@ returns-clause-noted g c =
     let call = c.serve_held.ensures in let request = c.args.request in let terms = c.args.terms in
     noted_here _ request terms.geometry terms.mode c.self.inside.order c.serve_held.new.order (verdict request.head terms.geometry terms.flags) c.serve_held.result call.serves call.unchanged
     ∙ ap (λ (o : OrderState). o.base) c.self.view_is
+
+pub serve_held-requires-clause-asked : goal.serve_held-requires-clause-asked
+serve_held-requires-clause-asked g c = λ logs.
+    has_sent g.B.BoardName.opening g.B.ImageName.image g.B.ImageName.vouches g.B.ImageName.trusted c.args.terms.mode g.T.Trust.trusted g.T.Trust.mode g.T.Trust.image c.self.inside.order c.args.request c.args.pass.now.client
+    (c.requires.log logs) c.self.invariant (c.requires.asked logs)
