@@ -5,6 +5,7 @@ ghost use Rattle.disk_model.specs.Disk.{MayLeave};
 ghost use Rattle.export.specs.Noted.{base_of};
 ghost use Rattle.export.specs.inner.Submits.{FitsServed, IsClientFor, IsServedFor, IsShownFor, serves_image};
 ghost use Rattle.export_model.specs.Log.{is_write};
+ghost use Rattle.export_model.specs.OneLog.{IsOneLog};
 ghost use Rattle.image_model.specs.Edit.{blocks_met};
 ghost use Rattle.image_model.specs.Image.{apply_all};
 ghost use Rattle.order_book.specs.Order.{with_clean};
@@ -24,8 +25,9 @@ use crate::name::ExportName;
 use crate::settling::FlushInterval;
 use crate::storage_engine::{JournalUse, StorageEngine};
 use crate::throttling::Throttle;
+use checkpoint::Keeper;
 use disk_model::Disk;
-use marks::{Board, Pass, Trust};
+use marks::{Board, Pass, Roster, Trust};
 use nbd_wire::{Answer, Request, RequestHead, TRIM, WRITE, WRITE_ZEROES};
 use order_book::{OrderFault, Span};
 use request_core::{Blocks, NeedsKeeper, Served, Terms, plan_read};
@@ -741,6 +743,7 @@ impl<B: ExportName> CommitQueue<B> {
     ) -> u64
         ensures mark { result ≡ B.opening + length pass.new.history }
         ensures keeper { keeper.new.keeper ≡ keeper.old.keeper }
+        ensures history { pass.new.history ≡ self.new.order.history }
         ensures durable { pass.new.durable ≡ pass.old.durable }
         ensures own { pass.new.own ≡ pass.old.own }
         ensures knew { IsPrefix pass.old.history pass.new.history }
@@ -750,6 +753,40 @@ impl<B: ExportName> CommitQueue<B> {
         ensures honest { B.trusted → D.honest keeper.old.keeper.disk }
     {
         self.order.meet_all(board, keeper, pass)
+    }
+
+    /// The end of the board, to which order and keeper give their seats back.
+    pub(crate) fn close<D: Disk, T: Trust>(
+        self,
+        board: Board<B, T>,
+        engine: StorageEngine<B, D>,
+        roster: Roster<B>,
+    ) -> Keeper<D>
+        ensures keeper { result ≡ engine.shared.keeper }
+        ensures log { T.logs → (durable : ℕ) × IsOneLog T.trusted T.mode T.image self.order.history durable roster
+            × (B.trusted → (content : List ℕ) → MayLeave (D.state engine.shared.keeper.disk) content → StandsWithin B.opening B.image self.order.history (B.opening + durable) content) }
+    {
+        let CommitQueue {
+            order,
+            settled: _,
+            frames: _,
+            passes: _,
+            wanted: _,
+            waiters: _,
+            is_storing: _,
+            calls_flusher: _,
+            is_full: _,
+            lacks_room: _,
+            wish: _,
+            is_flushed: _,
+            cannot_store: _,
+            cannot_copy: _,
+            most_pending: _,
+            interval: _,
+            throttle: _,
+            notes: _,
+        } = self;
+        order.close(board, engine.into_shared(), roster)
     }
 
     /// Lets go of the frames whose blocks the image holds. A checkpoint that was wanted is done, and is wanted again if the area is

@@ -7,7 +7,7 @@ ghost use Rattle.device_image.specs.Keeps.{Keeps};
 ghost use Rattle.device_image.specs.Stands.{StandsFor};
 ghost use Rattle.disk_model.specs.Disk.{IsAllSynced, LeavesOnly};
 ghost use Rattle.export.specs.Clients.{new_client_passes};
-ghost use Rattle.export.specs.Left.{LeavesHistory};
+ghost use Rattle.export.specs.Left.{KeepsLog, LeavesHistory};
 ghost use Rattle.export.specs.Opened.{keeper_part};
 ghost use Rattle.export.specs.Trusted.{IsTrusted, image_found};
 ghost use Rattle.image_model.specs.Image.{Image};
@@ -21,14 +21,14 @@ use crate::client_pass::ClientPass;
 use crate::commit_queue::CommitQueue;
 use crate::log_mode::LogMode;
 use crate::name::ExportName;
-use crate::retired::RetiredPass;
+use crate::retired::LastPass;
 use crate::signals::Signals;
 use crate::storage_engine::StorageEngine;
 use checkpoint::{Keeper, KeeperFault};
 use device_image::keeper_laws;
 use disk_model::Disk;
 use image_model::Geometry;
-use marks::{BlankBoard, Board, KeeperSeat, NoLog, Opened, Roster, Trust};
+use marks::{BlankBoard, Board, KeeperSeat, NoLog, Opened, Pass, Roster, Trust};
 use request_core::{Mode, fresh_order};
 use shared_store::{SharedKeeper, SharedOrder};
 use std::alloc::{AllocError, Global};
@@ -150,7 +150,7 @@ impl<B: ExportName, D: Disk, H: ReadBeside, T: Trust> Export<B, D, H, T> {
         frames: u32,
         mode: Mode,
         workers: usize,
-    ) -> Result<(Export<B, D, H, T>, Vec<ClientPass<B>>, RetiredPass<B>), D>
+    ) -> Result<(Export<B, D, H, T>, Vec<ClientPass<B>>, LastPass<B>), D>
         requires board { device.blank.board ≡ B.board }
         requires named { device.blank.opening ≡ B.opening }
         requires geometry { device.keeper.geometry ≡ B.geometry }
@@ -163,7 +163,7 @@ impl<B: ExportName, D: Disk, H: ReadBeside, T: Trust> Export<B, D, H, T> {
         ensures mode { IfOk result (λ made. made.0.mode ≡ mode) }
         ensures passes { IfOk result (λ made. vec_len made.1 ≡ workers) }
         ensures known { IfOk result (λ made. made.1.items ≡ new_client_passes device.keeper.count workers) }
-        ensures last { IfOk result (λ made. made.2 ≡ new_pass device.keeper.count) }
+        ensures last { IfOk result (λ made. made.2 ≡ record { pass = new_pass device.keeper.count; roster = record { made = workers; calls = [] } }) }
         ensures back { IfErr result (λ disk. disk ≡ device.keeper.disk) }
     {
         let OpenDevice {
@@ -201,36 +201,44 @@ impl<B: ExportName, D: Disk, H: ReadBeside, T: Trust> Export<B, D, H, T> {
         self.queue.lock(rt).stopped()
     }
 
-    /// The device, as it is, and whether all is stored of the history that the pass then knows. What is pending is lost.
+    /// The device, as it is, and whether all is stored of the history that the pass of the end then knows; that comes back. What is pending is
+    /// lost.
     ///
     /// It meets the order for that: its history begins with what the pass knew, and with what those passes knew that it has joined.
     /// Whatever a crash may leave of the device stands for the image as the opening found it after a beginning of that history, with
     /// all that the pass knows to be durable; and whatever one may have left at any moment since, for it after a beginning.
-    pub fn close(self, pass: &mut RetiredPass<B>) -> (D, bool)
-        ensures knew { IsPrefix pass.old.history pass.new.history }
-        ensures durable { pass.old.durable ≤ pass.new.durable }
-        ensures own { pass.new.own ≡ pass.old.own }
-        ensures left { B.trusted → LeavesHistory B.start (D.state result.0) B.opening B.image pass.new.history pass.new.durable }
+    ///
+    /// If the board kept a log, it is one log of just what the clients sent and were answered whose passes were joined, and nothing of a client
+    /// that was never made. It agrees with that history, and whatever a crash may leave of the device has all that the log covers.
+    pub fn close(self, last: LastPass<B>) -> (D, bool, Pass<B>)
+        ensures knew { IsPrefix last.pass.history result.2.history }
+        ensures durable { last.pass.durable ≤ result.2.durable }
+        ensures own { result.2.own ≡ last.pass.own }
+        ensures left { B.trusted → LeavesHistory B.start (D.state result.0) B.opening B.image result.2.history result.2.durable }
+        ensures log { T.logs → KeepsLog T.trusted T.mode B.trusted B.start (D.state result.0) B.opening B.image result.2.history last.roster }
         ensures honest { B.trusted → D.honest result.0 }
-        ensures stored { IsTrue result.1 ↔ (B.opening + length pass.new.history ≤ pass.new.durable) }
+        ensures stored { IsTrue result.1 ↔ (B.opening + length result.2.history ≤ result.2.durable) }
     {
         let Export {
             alloc: _,
             board,
             geometry: _,
             mode: _,
-            log: _,
+            log,
             engine,
             queue,
             beside: _,
             buffers: _,
             signals: _,
         } = self;
+        let LastPass { mut pass, roster } = last;
+        let _mode = log.mode();
         let mut engine = engine.into_inner();
         let mut queue = queue.into_inner();
-        let durable = board.look_durable(&mut pass.pass);
-        let mark = engine.meet_all(&mut queue, &board, &mut pass.pass);
-        (engine.into_keeper().into_disk(), mark <= durable)
+        let durable = board.look_durable(&mut pass);
+        let mark = engine.meet_all(&mut queue, &board, &mut pass);
+        let keeper = queue.close(board, engine, roster);
+        (keeper.into_disk(), mark <= durable, pass)
     }
 }
 
@@ -247,7 +255,7 @@ fn open_parts<B: ExportName, D: Disk, T: Trust>(
         KeeperSeat<B>,
         SharedOrder<B>,
         Vec<ClientPass<B>>,
-        RetiredPass<B>,
+        LastPass<B>,
     ),
     AllocError,
 >
@@ -262,7 +270,7 @@ fn open_parts<B: ExportName, D: Disk, T: Trust>(
     ensures noted { IfOk result (λ parts. parts.2.base ≡ keeper.now.count) }
     ensures passes { IfOk result (λ parts. vec_len parts.3 ≡ workers) }
     ensures known { IfOk result (λ parts. parts.3.items ≡ new_client_passes keeper.now.count workers) }
-    ensures last { IfOk result (λ parts. parts.4 ≡ new_pass keeper.now.count) }
+    ensures last { IfOk result (λ parts. parts.4 ≡ record { pass = new_pass keeper.now.count; roster = record { made = workers; calls = [] } }) }
 {
     let Opened {
         board,
@@ -281,7 +289,7 @@ fn open_parts<B: ExportName, D: Disk, T: Trust>(
         seat,
         SharedOrder::new(order),
         passes,
-        RetiredPass { pass: last },
+        LastPass { pass: last, roster },
     ))
 }
 

@@ -5,7 +5,7 @@ ghost use mathlib.Core.List.{IsPrefix};
 use crate::beside::ReadBeside;
 use crate::export::Export;
 use crate::name::ExportName;
-use crate::retired::RetiredPass;
+use crate::retired::LastPass;
 use crate::storage_engine::JournalUse;
 use disk_model::Disk;
 use marks::Trust;
@@ -105,16 +105,17 @@ impl<B: ExportName, D: Disk, H: ReadBeside, T: Trust> Export<B, D, H, T> {
     /// The figures of this moment. It takes the order's lock for as long as it copies them, and waits for no call of the device.
     ///
     /// The accepted and the durable number are those of the board, as a FLUSH sees them, so the pass learns that they were reached.
-    pub fn figures<R: Wait + Clock>(&self, rt: &R, pass: &mut RetiredPass<B>) -> ExportFigures
-        ensures accepted { result.accepted ≡ pass.new.accepted }
-        ensures durable { result.durable ≡ pass.new.durable }
-        ensures later { pass.old.durable ≤ pass.new.durable }
-        ensures knew { IsPrefix pass.old.history pass.new.history }
-        ensures own { pass.new.own ≡ pass.old.own }
+    pub fn figures<R: Wait + Clock>(&self, rt: &R, last: &mut LastPass<B>) -> ExportFigures
+        ensures accepted { result.accepted ≡ last.new.pass.accepted }
+        ensures durable { result.durable ≡ last.new.pass.durable }
+        ensures later { last.old.pass.durable ≤ last.new.pass.durable }
+        ensures knew { IsPrefix last.old.pass.history last.new.pass.history }
+        ensures own { last.new.pass.own ≡ last.old.pass.own }
+        ensures roster { last.new.roster ≡ last.old.roster }
     {
         let told = self.queue.lock(rt).figures();
-        let durable = self.board.look_durable(&mut pass.pass);
-        let accepted = self.board.look_accepted(&mut pass.pass);
+        let durable = self.board.look_durable(&mut last.pass);
+        let accepted = self.board.look_accepted(&mut last.pass);
         let journal = told.journal;
         let waiting = u64::from(journal.waiting);
         let used = waiting

@@ -32,5 +32,5 @@ pub use export::{Export, OpenDevice};
 pub use figures::ExportFigures;
 pub use laws::{answer_law, opened_device_law};
 pub use name::ExportName;
-pub use retired::RetiredPass;
+pub use retired::{LastPass, RetiredPass};
 pub use sync_points::{Point, SyncPoints};

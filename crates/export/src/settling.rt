@@ -92,6 +92,7 @@ impl<B: ExportName, D: Disk, H: ReadBeside, T: Trust> Export<B, D, H, T> {
         ensures knew { IsPrefix pass.old.history pass.new.history }
         ensures lasts { pass.old.durable ≤ pass.new.durable }
         ensures own { pass.new.own ≡ pass.old.own }
+        ensures client { pass.new.client ≡ pass.old.client }
     {
         let accepted = self.board.look_accepted(&mut pass.pass);
         match self.wait_for(rt, points, &mut pass.pass, accepted) {

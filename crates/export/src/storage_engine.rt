@@ -13,7 +13,7 @@ ghost use Rattle.shared_store.specs.Parts.{StandsWithin};
 
 use crate::commit_queue::CommitQueue;
 use crate::name::ExportName;
-use checkpoint::{Keeper, KeeperFault};
+use checkpoint::KeeperFault;
 use disk_model::Disk;
 use journal::Group;
 use marks::{Board, Pass, Trust};
@@ -112,9 +112,9 @@ impl<B: ExportName, D: Disk> StorageEngine<B, D> {
         }
     }
 
-    /// The keeper, as it is.
-    pub(crate) fn into_keeper(self) -> Keeper<D>
-        ensures { result ≡ self.shared.keeper }
+    /// The keeper with its seat, as it is.
+    pub(crate) fn into_shared(self) -> SharedKeeper<B, D>
+        ensures { result ≡ self.shared }
     {
         let StorageEngine {
             shared,
@@ -122,7 +122,7 @@ impl<B: ExportName, D: Disk> StorageEngine<B, D> {
             waiting: _,
             stage: _,
         } = self;
-        shared.into_keeper()
+        shared
     }
 
     // The bytes of each area.
@@ -260,6 +260,7 @@ impl<B: ExportName, D: Disk> StorageEngine<B, D> {
     ) -> u64
         ensures mark { result ≡ B.opening + length pass.new.history }
         ensures same { self.new.shared.keeper ≡ self.old.shared.keeper }
+        ensures history { pass.new.history ≡ queue.new.order.history }
         ensures durable { pass.new.durable ≡ pass.old.durable }
         ensures own { pass.new.own ≡ pass.old.own }
         ensures knew { IsPrefix pass.old.history pass.new.history }

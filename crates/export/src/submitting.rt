@@ -24,7 +24,7 @@ use crate::commit_queue::Planned;
 use crate::edges::MissingEdges;
 use crate::export::Export;
 use crate::name::ExportName;
-use crate::retired::RetiredPass;
+use crate::retired::{LastPass, RetiredPass};
 use crate::sync_points::SyncPoints;
 use disk_model::{DeviceFault, Disk};
 use image_model::BLOCK_BYTES;
@@ -465,17 +465,19 @@ impl<B: ExportName, D: Disk, H: ReadBeside, T: Trust> Export<B, D, H, T> {
         RetiredPass { pass }
     }
 
-    /// A pass that has left learns what another one knew: what it knows then begins with both histories, and it knows to be durable
-    /// what one of them did.
-    pub fn join(&self, pass: &mut RetiredPass<B>, other: RetiredPass<B>)
-        ensures knew { IsPrefix pass.old.history pass.new.history }
-        ensures other { IsPrefix other.history pass.new.history }
-        ensures durable { pass.new.durable ≡ max pass.old.durable other.durable }
-        ensures own { pass.new.own ≡ pass.old.own }
+    /// The pass of the end learns what one that has left knew: what it knows then begins with both histories, and it knows to be durable
+    /// what one of them did. Its roster then has what that one's client sent and was answered.
+    pub fn join(&self, last: &mut LastPass<B>, other: RetiredPass<B>)
+        ensures knew { IsPrefix last.old.pass.history last.new.pass.history }
+        ensures other { IsPrefix other.history last.new.pass.history }
+        ensures durable { last.new.pass.durable ≡ max last.old.pass.durable other.durable }
+        ensures own { last.new.pass.own ≡ last.old.pass.own }
+        ensures calls { last.new.roster ≡ record last.old.roster { calls = last.old.roster.calls ++ record { by = other.client.by; events = other.client.mine } ∷ [] } }
     {
         let RetiredPass { pass: mut other } = other;
         let known = self.board.tell(&mut other);
-        self.board.learn(&mut pass.pass, known);
+        self.board.learn(&mut last.pass, known);
+        self.board.gather(&mut last.roster, other);
     }
 }
 

@@ -150,7 +150,7 @@ fn run<B: ExportName + Send + Sync, D: Disk + Send + Drop, R: Threads + Wait + C
     requires vouches { (read : SpanRead) → B.vouches read }
     requires geometry { device.keeper.geometry ≡ B.geometry }
 {
-    let (export, mut passes, mut last) = Export::<B, D, ()>::open(
+    let (export, mut passes, last) = Export::<B, D, ()>::open(
         alloc,
         device,
         FRAMES,
@@ -160,7 +160,7 @@ fn run<B: ExportName + Send + Sync, D: Disk + Send + Drop, R: Threads + Wait + C
     let other = passes.pop()?;
     let one = passes.pop()?;
     let done = with_threads(rt, alloc, &export, one, other, count == ALONE)?;
-    Some((done, export.close(&mut last).0))
+    Some((done, export.close(last).0))
 }
 
 // Has the passes served while a flusher and a checkpointer run; none where these can't be started.

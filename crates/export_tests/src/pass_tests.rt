@@ -27,7 +27,7 @@ fn tell_and_read<B: ExportName, R: Wait + Clock>(
     requires vouches { (read : SpanRead) → B.vouches read }
     requires geometry { device.keeper.geometry ≡ B.geometry }
 {
-    let (export, mut passes, mut last) = Export::<B, SimDisk, ()>::open(
+    let (export, mut passes, last) = Export::<B, SimDisk, ()>::open(
         alloc,
         device,
         512,
@@ -46,7 +46,7 @@ fn tell_and_read<B: ExportName, R: Wait + Clock>(
     good &= reads_back(rt, alloc, &export, &mut other, 6, 0);
     export.leave(rt, one);
     export.leave(rt, other);
-    let keeper = Keeper::open(alloc, export.close(&mut last).0).ok()?;
+    let keeper = Keeper::open(alloc, export.close(last).0).ok()?;
     Some((good, keeper.count()))
 }
 
@@ -202,7 +202,7 @@ fn share<B: ExportName + Send + Sync, R: Threads + Wait + Clock + Sync>(
     requires vouches { (read : SpanRead) → B.vouches read }
     requires geometry { device.keeper.geometry ≡ B.geometry }
 {
-    let (export, passes, mut last) = Export::<B, SimDisk, ()>::open(
+    let (export, passes, last) = Export::<B, SimDisk, ()>::open(
         alloc,
         device,
         512,
@@ -212,7 +212,7 @@ fn share<B: ExportName + Send + Sync, R: Threads + Wait + Clock + Sync>(
     let written = write_by_threads(rt, alloc, &export, passes);
     // Once all have left, all is stored, with nobody waiting for it.
     export.flusher(rt, &mut ());
-    let mut keeper = Keeper::open(alloc, export.close(&mut last).0).ok()?;
+    let mut keeper = Keeper::open(alloc, export.close(last).0).ok()?;
     let mut kept = true;
     for block in 0..40 {
         kept &= has_block(&mut keeper, block, 1, 1);

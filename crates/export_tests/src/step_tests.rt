@@ -132,7 +132,7 @@ fn run_held<B: ExportName + Send + Sync, R: Threads + Wait + Clock + Sync>(
     requires vouches { (read : SpanRead) → B.vouches read }
     requires geometry { device.keeper.geometry ≡ B.geometry }
 {
-    let (export, mut passes, mut last) = Export::<B, SimDisk, ()>::open(
+    let (export, mut passes, last) = Export::<B, SimDisk, ()>::open(
         alloc,
         device,
         512,
@@ -143,7 +143,7 @@ fn run_held<B: ExportName + Send + Sync, R: Threads + Wait + Clock + Sync>(
     let held = AtomicBool::new(false);
     let answered = AtomicBool::new(false);
     let good = hold_steps(rt, alloc, &export, pass, &held, &answered)?;
-    let keeper = Keeper::open(alloc, export.close(&mut last).0).ok()?;
+    let keeper = Keeper::open(alloc, export.close(last).0).ok()?;
     Some(Ran {
         good,
         number: keeper.count(),

@@ -13,8 +13,7 @@ use crate::log::Log;
 use crate::worker::{Server, Task, WorkerPool};
 use disk_model::Disk;
 use export::{
-    ClientPass, Export, ExportName, OpenDevice, ReadBeside, RetiredPass, SyncPoints,
-    opened_device_law,
+    ClientPass, Export, ExportName, LastPass, OpenDevice, ReadBeside, SyncPoints, opened_device_law,
 };
 use front_end::{Refusal, ServeOptions};
 use negotiation::OfferedName;
@@ -155,8 +154,8 @@ where
         Ok((export, passes, last)) => {
             let sessions = options.limits.sessions;
             let pool = WorkerPool::new(rt, alloc, registry, &export, passes, last, sessions);
-            let (served, mut last) = serve_clients(rt, pool, &export, options, name, watch);
-            let (disk, is_stored) = export.close(&mut last);
+            let (served, last) = serve_clients(rt, pool, &export, options, name, watch);
+            let (disk, is_stored, _pass) = export.close(last);
             let has_failed = disk.failures() != failures;
             (end_of(served, has_failed, is_stored), disk)
         }
@@ -181,7 +180,7 @@ fn open_export<B, D, H>(
     alloc: Global,
     device: OpenDevice<D, H>,
     options: &ServeOptions,
-) -> Result<(Export<B, D, H>, Vec<ClientPass<B>>, RetiredPass<B>), D>
+) -> Result<(Export<B, D, H>, Vec<ClientPass<B>>, LastPass<B>), D>
 where
     B: ExportName,
     D: Disk,
@@ -195,7 +194,7 @@ where
     requires geometry { device.keeper.geometry ≡ B.geometry }
     ensures mode { IfOk result (λ made. made.0.mode ≡ options.now.mode) }
     ensures passes { IfOk result (λ made. vec_len made.1 ≡ options.now.workers + 1) }
-    ensures last { IfOk result (λ made. made.2 ≡ new_pass device.keeper.count) }
+    ensures last { IfOk result (λ made. made.2 ≡ record { pass = new_pass device.keeper.count; roster = record { made = options.now.workers + 1; calls = [] } }) }
     ensures back { IfErr result (λ disk. disk ≡ device.keeper.disk) }
 {
     Export::<B, D, H>::open(
@@ -215,7 +214,7 @@ fn serve_clients<B, D, H, R, G>(
     options: ServeOptions,
     name: OfferedName<'_>,
     watch: G,
-) -> (Result<(), Refusal>, RetiredPass<B>)
+) -> (Result<(), Refusal>, LastPass<B>)
 where
     B: ExportName + Send + Sync,
     D: Disk + Send,

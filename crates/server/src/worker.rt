@@ -6,7 +6,9 @@ use crate::client_registry::{ClientRegistry, Session};
 use crate::log::{Event, Log, Traffic, Watched};
 use crate::request_handler::RequestHandler;
 use disk_model::Disk;
-use export::{ClientPass, Export, ExportFigures, ExportName, ReadBeside, RetiredPass, SyncPoints};
+use export::{
+    ClientPass, Export, ExportFigures, ExportName, LastPass, ReadBeside, RetiredPass, SyncPoints,
+};
 use front_end::{OnFault, ServeOptions, WhenFull};
 use negotiation::{End, OfferedName, serve_session};
 use std::alloc::Global;
@@ -48,7 +50,7 @@ pub(crate) struct WorkerPool<'a, B: ExportName> {
     registry: &'a ClientRegistry,
     passes: Mutex<Vec<ClientPass<B>>>,
     // That of the end, which the others join.
-    last: Mutex<RetiredPass<B>>,
+    last: Mutex<LastPass<B>>,
     // That of whoever has all stored, which may wait, and so isn't the one that figures are read by.
     storing: Mutex<Option<RetiredPass<B>>>,
     sessions: Mutex<Sessions>,
@@ -64,7 +66,7 @@ impl<'a, B: ExportName> WorkerPool<'a, B> {
         registry: &'a ClientRegistry,
         export: &Export<B, D, H>,
         passes: Vec<ClientPass<B>>,
-        last: RetiredPass<B>,
+        last: LastPass<B>,
         sessions: u64,
     ) -> WorkerPool<'a, B> {
         let mut passes = passes;
@@ -129,10 +131,7 @@ impl<'a, B: ExportName> WorkerPool<'a, B> {
     }
 
     /// The pass of the end.
-    pub(crate) fn into_last<D: Disk, H: ReadBeside>(
-        self,
-        export: &Export<B, D, H>,
-    ) -> RetiredPass<B> {
+    pub(crate) fn into_last<D: Disk, H: ReadBeside>(self, export: &Export<B, D, H>) -> LastPass<B> {
         let mut last = self.last.into_inner();
         if let Some(storing) = self.storing.into_inner() {
             export.join(&mut last, storing);

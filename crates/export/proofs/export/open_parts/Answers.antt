@@ -55,5 +55,7 @@ returns-clause-known g c = c.in_ok-passes.ensures.passes ∙ ap (λ (n : ℕ). n
 
 pub returns-clause-last : goal.returns-clause-last
 returns-clause-last g c =
+    let last =
     (popped c.in_ok-board.field-0.passes.items c.pop.new.self.items c.in-Some.last (new_pass c.args.blank.opening) 1 0 c.in-Some.ensures.items c.in_ok-board.ensures.passes refl).1
-    ∙ ap new_pass c.requires.opening
+    ∙ ap new_pass c.requires.opening in
+    λ i. record { pass = last i; roster = c.in_ok-passes.ensures.roster i }

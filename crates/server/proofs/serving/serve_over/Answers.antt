@@ -5,12 +5,12 @@ use Rattle.server.proofs.serving.serve_over.Goals as goal
 
 pub returns-in-Ok-clause-left : goal.returns-in-Ok-clause-left
 returns-in-Ok-clause-left g c = λ sure.
-    let pass = c.close-disk.new.pass in
+    let pass = c.close-disk.result.2 in
     (pass.history, reaching g.B.ImageName.start (g.D.Disk.state c.close-disk.result.0) g.B.BoardName.opening g.B.ImageName.image pass.history pass.durable g.B.BoardName.opening (λ content is. omega arith) (c.close-disk.ensures.left sure))
 
 pub returns-in-Ok-clause-stored : goal.returns-in-Ok-clause-stored
 returns-in-Ok-clause-stored g c = on_ok c.end_of.result c.end_of.ensures.stored (λ stored sure.
-    let pass = c.close-disk.new.pass in let all = c.close-disk.ensures.stored.0 stored in (
+    let pass = c.close-disk.result.2 in let all = c.close-disk.ensures.stored.0 stored in (
       pass.history,
       reaching g.B.ImageName.start (g.D.Disk.state c.close-disk.result.0) g.B.BoardName.opening g.B.ImageName.image pass.history pass.durable (g.B.BoardName.opening + length pass.history)
           (λ content is. let reaches = is.reaches in omega (arith, reaches, all)) (c.close-disk.ensures.left sure),
