@@ -24,7 +24,7 @@ use crate::gathering::Waiters;
 use crate::name::ExportName;
 use crate::settling::FlushInterval;
 use crate::storage_engine::{JournalUse, StorageEngine};
-use crate::throttling::Throttle;
+use crate::throttling::{Throttle, eighths_above};
 use checkpoint::Keeper;
 use disk_model::Disk;
 use marks::{Board, Pass, Roster, Trust};
@@ -512,6 +512,11 @@ impl<B: ExportName> CommitQueue<B> {
     {
         let dirty = self.order.order().dirty_blocks() as u64;
         self.throttle.note(blocks, dirty, self.frames as u64)
+    }
+
+    /// Whether clients that write are to be slowed down.
+    pub(crate) fn is_tight(&self) -> bool {
+        eighths_above(self.order.order().dirty_blocks() as u64, self.frames as u64) > 0
     }
 
     /// Whether there are enough pending bytes to store them though nobody waits for them: more than the usual limit, or than half of the

@@ -1,6 +1,7 @@
 //! What the threads of an export tell one another.
 
 use std::sync::Condvar;
+use std::sync::atomic::{AtomicBool, Ordering};
 
 /// Where threads wait, and are told to look again.
 pub(crate) struct Signals {
@@ -10,6 +11,8 @@ pub(crate) struct Signals {
     pub work: Condvar,
     /// Told where the checkpointer has.
     pub checkpoint_due: Condvar,
+    // Whether writers are to be slowed down. It saves them the order's lock if they aren't.
+    is_tight: AtomicBool,
 }
 
 impl Drop for Signals {
@@ -18,6 +21,7 @@ impl Drop for Signals {
             settled: _,
             work: _,
             checkpoint_due: _,
+            is_tight: _,
         } = self;
     }
 }
@@ -28,7 +32,20 @@ impl Signals {
             settled: Condvar::new(),
             work: Condvar::new(),
             checkpoint_due: Condvar::new(),
+            is_tight: AtomicBool::new(false),
         }
+    }
+
+    /// Notes whether writers are to be slowed down.
+    pub(crate) fn note_tight(&self, is_tight: bool) {
+        if self.is_tight() != is_tight {
+            self.is_tight.store(is_tight, Ordering::SeqCst);
+        }
+    }
+
+    /// Whether writers are to be slowed down, as it was last noted.
+    pub(crate) fn is_tight(&self) -> bool {
+        self.is_tight.load(Ordering::SeqCst)
     }
 
     /// Tells the flusher and the checkpointer to look for work.

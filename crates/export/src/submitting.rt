@@ -215,6 +215,7 @@ impl<B: ExportName, D: Disk, H: ReadBeside, T: Trust> Export<B, D, H, T> {
         match &served {
             Served::Ready(_) => {
                 let (work, is_due) = queue.next_work();
+                self.signals.note_tight(queue.is_tight());
                 drop(queue);
                 self.signals.notify(work, is_due);
             }
@@ -411,6 +412,7 @@ impl<B: ExportName, D: Disk, H: ReadBeside, T: Trust> Export<B, D, H, T> {
             return served;
         }
         let (work, is_due) = queue.next_work();
+        self.signals.note_tight(queue.is_tight());
         drop(queue);
         drop(engine);
         self.signals.notify(work, is_due);

@@ -37,9 +37,7 @@ impl Throttle {
 
     /// Notes that blocks were written, while this many of the frames are dirty; for how many microseconds their client waits.
     pub(crate) fn note(&mut self, blocks: u64, dirty: u64, frames: u64) -> u64 {
-        let above = dirty
-            .saturating_mul(8)
-            .saturating_sub(frames.saturating_mul(7));
+        let above = eighths_above(dirty, frames);
         if above == 0 {
             self.due = 0;
             return 0;
@@ -60,6 +58,13 @@ impl Throttle {
     }
 }
 
+/// By how many frames more than seven eighths of them are dirty, times eight.
+pub(crate) fn eighths_above(dirty: u64, frames: u64) -> u64 {
+    dirty
+        .saturating_mul(8)
+        .saturating_sub(frames.saturating_mul(7))
+}
+
 impl<B: ExportName, D: Disk, H: ReadBeside, T: Trust> Export<B, D, H, T> {
     /// Has a client wait that has written this many bytes, for 10 ms at most, if more than seven eighths of the frames are dirty;
     /// for how long it did, where that can be told. The write was accepted after `began`, where that is known.
@@ -69,6 +74,9 @@ impl<B: ExportName, D: Disk, H: ReadBeside, T: Trust> Export<B, D, H, T> {
         bytes: u32,
         began: Option<Instant>,
     ) -> Option<Duration> {
+        if began.is_none() && !self.signals.is_tight() {
+            return None;
+        }
         let blocks = u64::from(bytes).saturating_add(BLOCK_BYTES - 1) / BLOCK_BYTES;
         let mut queue = self.queue.lock(rt);
         if let Some(began) = began {

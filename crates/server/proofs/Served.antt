@@ -1,10 +1,15 @@
 -- What is left of a device that was served.
 use Rattle.std.specs.Prelude.{OnOk}
-use Rattle.std.proofs.Common.{◌≡◌, ℕ, ◌+◌, ◌≤◌, List, [], Result, Ok, Err, length, refl, subst, sym, arith}
+use Rattle.std.proofs.Common.{◌≡◌, ℕ, ◌+◌, ◌≤◌, false, List, [], Result, Ok, Err, length, refl, subst, sym, arith}
 use Rattle.device_image.specs.Stands.{StandsFor}
 use Rattle.disk_model.specs.Disk.{LeavesOnly, State}
 use Rattle.disk_model.specs.laws.Moments.{weakens}
-use Rattle.export.specs.Left.{LeavesHistory}
+use Rattle.export.specs.Left.{KeepsLog, LeavesHistory}
+use Rattle.export_model.specs.OneLog.{IsOneLog}
+use Rattle.export_model.specs.World.{Setting}
+use Rattle.export_model.specs.declared.step.Mode.{Mode}
+use Rattle.export_model.specs.laws.Good.{covers_durable, good_quiet, quiet, reads_fit}
+use Rattle.image_model.specs.declared.geometry.Geometry.{Geometry}
 use Rattle.image_model.specs.Change.{Change}
 use Rattle.image_model.specs.Image.{Image}
 use Rattle.shared_store.specs.Parts.{StandsWithin}
@@ -30,3 +35,28 @@ reaching start now opening image history least other reaches is = record {
 pub on_ok : {T E : Type 0} {A B : Type 0} (result : Result T E) → OnOk result A → (A → B) → OnOk result B
 on_ok (Ok value) is then = then is
 on_ok (Err error) is then = tt
+
+-- a log of nothing
+pub no_log : (geometry : Geometry) (trusted : Type 0) (mode : Mode) (image : Image) → IsOneLog trusted mode image [] 0 (record { made = 0; calls = [] })
+no_log geometry trusted mode image =
+    let setting : Setting = record { geometry = geometry; flags = record { structured = false; context = false }; mode = mode; connections = 0; frames = 0; image = image; opening = 0; generation = 0; failures = 0; trusted = false } in
+    let good = good_quiet trusted setting in record {
+      log = [];
+      paired = λ command. 0;
+      shown = λ place. 0;
+      legal = good.sound.legal;
+      covers = covers_durable (quiet setting) good.sound;
+      reads = reads_fit trusted (quiet setting) good;
+      edits = good.edits;
+      all = tt;
+      others = λ by above. refl;
+    }
+
+-- of a device of which nobody was served there is one
+pub unlogged : (geometry : Geometry) (trusted : Type 0) (mode : Mode) (sure : Type 0) (start now : State) (opening : ℕ) (image : Image) → (sure → LeavesHistory start now opening image [] opening)
+    → KeepsLog trusted mode sure start now opening image [] (record { made = 0; calls = [] })
+unlogged geometry trusted mode sure start now opening image left = record {
+  durable = 0;
+  log = no_log geometry trusted mode image;
+  left = λ known. subst (LeavesHistory start now opening image []) (omega arith) (left known);
+}

@@ -1,6 +1,8 @@
+ghost use Rattle.std.specs.Prelude.{◌≡◌, ◌++◌, ◌∷◌, []};
 ghost use Rattle.export.specs.Submits.{IsJudged, IsSubmitted};
 ghost use Rattle.export_model.specs.Log.{flush_waits};
 ghost use Rattle.export_model.specs.Verdict.{verdict};
+ghost use Rattle.export_model.specs.declared.event.Event.TheVariants as LogEvent;
 ghost use Rattle.image_model.specs.Image.{apply_all};
 ghost use Rattle.shared_store.specs.Answers.{TellsImage};
 ghost use Rattle.shared_store.specs.Orders.{Trusting};
@@ -12,6 +14,7 @@ use disk_model::Disk;
 use export::{ClientPass, Export, ExportName, ReadBeside, SyncPoints};
 use export_model::Mode;
 use image_model::Geometry;
+use marks::Trust;
 use nbd_wire::{
     Answer, BLOCK_STATUS, CommandFlags, FLUSH, READ, Reply, Request, RequestHead, SessionFlags,
     TRIM, WRITE, WRITE_ZEROES,
@@ -30,11 +33,12 @@ pub struct RequestHandler<
     B: ExportName,
     D: Disk,
     H: ReadBeside,
+    T: Trust,
     R: Wait + Clock,
     L: SyncPoints + Log + Copy,
 > {
     pub rt: &'a R,
-    pub export: &'a Export<B, D, H>,
+    pub export: &'a Export<B, D, H, T>,
     pub client: &'a Client,
     // The client's number.
     pub number: u64,
@@ -53,12 +57,20 @@ pub struct RequestHandler<
     pub name: OfferedName<'a>,
 }
 
-impl<'a, B: ExportName, D: Disk, H: ReadBeside, R: Wait + Clock, L: SyncPoints + Log + Copy> Serve<
-    ClientPass<B>,
-> for RequestHandler<'a, B, D, H, R, L> {
+impl<
+    'a,
+    B: ExportName,
+    D: Disk,
+    H: ReadBeside,
+    T: Trust,
+    R: Wait + Clock,
+    L: SyncPoints + Log + Copy,
+> Serve<ClientPass<B>> for RequestHandler<'a, B, D, H, T, R, L> {
     ghost allows = { λ handler pass request flags next reply. IsSubmitted B.opening B.image (Trusting B.opening B.image B.vouches B.trusted) request handler.export.now.mode pass next reply.answer
         × IsJudged (verdict request.head handler.export.now.geometry flags) request reply.answer
-        × (Trusting B.opening B.image B.vouches B.trusted (TellsImage (apply_all next.history B.image) request.head reply.answer)) };
+        × (Trusting B.opening B.image B.vouches B.trusted (TellsImage (apply_all next.history B.image) request.head reply.answer))
+        × (next.client.by ≡ pass.client.by)
+        × (next.client.mine ≡ pass.client.mine ++ LogEvent.Sent pass.client.by request ∷ LogEvent.Answered pass.client.by reply.answer ∷ []) };
 
     ghost extent = { λ handler. handler.export.now.geometry };
 
@@ -119,9 +131,10 @@ impl<
     B: ExportName,
     D: Disk,
     H: ReadBeside,
+    T: Trust,
     R: Wait + Clock,
     L: SyncPoints + Log + Copy,
-> RequestHandler<'a, B, D, H, R, L> {
+> RequestHandler<'a, B, D, H, T, R, L> {
     // Whether a request with this head is answered once something is stored.
     fn waits_for_store(&self, head: &RequestHead) -> bool {
         let fua = CommandFlags::FUA.bits();

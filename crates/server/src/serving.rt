@@ -1,10 +1,12 @@
-ghost use Rattle.std.specs.Prelude.{◌≡◌, ◌+◌, false, IfErr, IfOk, IsTrue, List, OnOk, Some, length, vec_len};
+ghost use Rattle.std.specs.Prelude.{◌≡◌, ◌+◌, [], false, IfErr, IfOk, IsTrue, List, OnOk, Some, length, vec_len};
 ghost use Rattle.device_image.specs.Stands.{StandsFor};
 ghost use Rattle.disk_model.specs.Disk.{LeavesOnly};
-ghost use Rattle.export.specs.Left.{LeavesHistory};
-ghost use Rattle.export.specs.Trusted.{IsTrusted, image_found};
+ghost use Rattle.export.specs.Left.{KeepsLog, LeavesHistory};
+ghost use Rattle.export.specs.Trusted.{IsTrusted, IsTrustedWith, image_found};
+ghost use Rattle.export_model.specs.OneLog.{RosterState};
 ghost use Rattle.image_model.specs.Change.{Change};
 ghost use Rattle.marks.specs.Known.{new_pass};
+ghost use Rattle.shared_store.specs.Logs.{IsLogOf};
 ghost use Rattle.shared_store.specs.Orders.{SpanRead};
 
 use crate::client_registry::ClientRegistry;
@@ -16,6 +18,7 @@ use export::{
     ClientPass, Export, ExportName, LastPass, OpenDevice, ReadBeside, SyncPoints, opened_device_law,
 };
 use front_end::{Refusal, ServeOptions};
+use marks::{BlankBoard, Trust};
 use negotiation::OfferedName;
 use std::alloc::Global;
 use std::io::{ErrorKind, Read};
@@ -32,6 +35,10 @@ use std::thread::{self, Scope, Threads};
 /// Where the device is trusted, whatever a crash at some moment of it may have left stands for the image that was found after a
 /// beginning of one history of write commands; and at Ok whatever one may leave then stands for the image after all of that. At Ok
 /// the device has counted no fault since it was opened; a failed read by its second handle is none.
+///
+/// There is one log of what clients sent and were answered, over all threads, which agrees with one history of write commands: each answer
+/// has what all others were answered before its request was sent. Whatever a crash may leave in the end has all that the log covers, and at Ok
+/// all of the history.
 pub fn serve<D, H, R, I, G>(
     rt: &R,
     alloc: Global,
@@ -52,12 +59,16 @@ where
         × LeavesHistory (D.state device.keeper.disk) (D.state result.1) device.keeper.count (image_found D.state device.keeper) history device.keeper.count }
     ensures stored { OnOk result.0 (IsTrusted D.state D.honest device.keeper (image_found D.state device.keeper) → (history : List Change)
         × LeavesHistory (D.state device.keeper.disk) (D.state result.1) device.keeper.count (image_found D.state device.keeper) history (device.keeper.count + length history)) }
+    ensures log { (history : List Change) × (roster : RosterState)
+        × KeepsLog (IsTrustedWith D.state D.honest H.vouches device.keeper device.beside (image_found D.state device.keeper)) options.mode (IsTrusted D.state D.honest device.keeper (image_found D.state device.keeper)) (D.state device.keeper.disk) (D.state result.1) device.keeper.count (image_found D.state device.keeper) history roster
+        × OnOk result.0 (IsTrusted D.state D.honest device.keeper (image_found D.state device.keeper)
+        → LeavesHistory (D.state device.keeper.disk) (D.state result.1) device.keeper.count (image_found D.state device.keeper) history (device.keeper.count + length history)) }
     ensures honest { IsTrusted D.state D.honest device.keeper (image_found D.state device.keeper) → D.honest result.1 }
     ensures faults { OnOk result.0 (D.faults result.1 ≡ D.faults device.keeper.disk) }
 {
     opened_device_law::<D>();
     match open_registry(rt, alloc, listeners, input, &options) {
-        Ok(registry) => serve_over::<Brand, D, H, R, G>(
+        Ok(registry) => serve_logged::<Brand, D, H, R, G>(
             rt, alloc, device, &registry, options, name, watch,
         ),
         Err(refusal) => (Err(refusal), device.keeper.into_disk()),
@@ -121,7 +132,8 @@ pub fn read_to_end_of<R: Wait, I: Read + Drop>(rt: &R, input: I) {
     }
 }
 
-fn serve_over<B, D, H, R, G>(
+// The same over a board that keeps a log, of which is said what it trusts.
+fn serve_logged<T, D, H, R, G>(
     rt: &R,
     alloc: Global,
     device: OpenDevice<D, H>,
@@ -131,9 +143,60 @@ fn serve_over<B, D, H, R, G>(
     watch: G,
 ) -> (Result<(), Refusal>, D)
 where
+    T: Trust + Send + Sync,
+    D: Disk + Send + Drop,
+    H: ReadBeside + Send + Sync,
+    R: Threads + Wait + Clock + Sync,
+    G: SyncPoints + Log + Copy + Send + Sync,
+    requires mode { T.mode ≡ options.mode }
+    requires image { T.image ≡ image_found D.state device.keeper }
+    requires trusted { T.trusted → IsTrustedWith D.state D.honest H.vouches device.keeper device.beside (image_found D.state device.keeper) }
+    ensures left { IsTrusted D.state D.honest device.keeper (image_found D.state device.keeper) → (history : List Change)
+        × LeavesHistory (D.state device.keeper.disk) (D.state result.1) device.keeper.count (image_found D.state device.keeper) history device.keeper.count }
+    ensures stored { OnOk result.0 (IsTrusted D.state D.honest device.keeper (image_found D.state device.keeper) → (history : List Change)
+        × LeavesHistory (D.state device.keeper.disk) (D.state result.1) device.keeper.count (image_found D.state device.keeper) history (device.keeper.count + length history)) }
+    ensures log { T.logs → (history : List Change) × (roster : RosterState)
+        × KeepsLog T.trusted T.mode (IsTrusted D.state D.honest device.keeper (image_found D.state device.keeper)) (D.state device.keeper.disk) (D.state result.1) device.keeper.count (image_found D.state device.keeper) history roster
+        × OnOk result.0 (IsTrusted D.state D.honest device.keeper (image_found D.state device.keeper)
+        → LeavesHistory (D.state device.keeper.disk) (D.state result.1) device.keeper.count (image_found D.state device.keeper) history (device.keeper.count + length history)) }
+    ensures honest { IsTrusted D.state D.honest device.keeper (image_found D.state device.keeper) → D.honest result.1 }
+    ensures faults { OnOk result.0 (D.faults result.1 ≡ D.faults device.keeper.disk) }
+{
+    opened_device_law::<D>();
+    let OpenDevice {
+        blank: _,
+        keeper,
+        beside,
+        failures,
+    } = device;
+    match BlankBoard::<T>::new(alloc, keeper.count()) {
+        Ok(blank) => {
+            let device = OpenDevice {
+                blank,
+                keeper,
+                beside,
+                failures,
+            };
+            serve_over::<Brand, D, H, T, R, G>(rt, alloc, device, registry, options, name, watch)
+        }
+        Err(_) => (Err(Refusal::NoMemory), keeper.into_disk()),
+    }
+}
+
+fn serve_over<B, D, H, T, R, G>(
+    rt: &R,
+    alloc: Global,
+    device: OpenDevice<D, H, T>,
+    registry: &ClientRegistry,
+    options: ServeOptions,
+    name: OfferedName<'_>,
+    watch: G,
+) -> (Result<(), Refusal>, D)
+where
     B: ExportName + Send + Sync,
     D: Disk + Send + Drop,
     H: ReadBeside + Send + Sync,
+    T: Trust + Send + Sync,
     R: Threads + Wait + Clock + Sync,
     G: SyncPoints + Log + Copy + Send + Sync,
     requires board { device.blank.board ≡ B.board }
@@ -143,14 +206,17 @@ where
     requires start { B.trusted → LeavesOnly B.start (D.state device.keeper.disk) (λ content. StandsFor content B.image B.opening) }
     requires vouches { (handle : H) → device.beside ≡ Some handle → (read : SpanRead) → H.vouches handle read → B.vouches read }
     requires geometry { device.keeper.geometry ≡ B.geometry }
+    requires log { T.logs → IsLogOf B.opening B.image B.vouches B.trusted options.mode T.trusted T.mode T.image }
     ensures left { B.trusted → (history : List Change) × LeavesHistory B.start (D.state result.1) B.opening B.image history B.opening }
     ensures stored { OnOk result.0 (B.trusted → (history : List Change) × LeavesHistory B.start (D.state result.1) B.opening B.image history (B.opening + length history)) }
+    ensures log { T.logs → (history : List Change) × (roster : RosterState) × KeepsLog T.trusted T.mode B.trusted B.start (D.state result.1) B.opening B.image history roster
+        × OnOk result.0 (B.trusted → LeavesHistory B.start (D.state result.1) B.opening B.image history (B.opening + length history)) }
     ensures honest { B.trusted → D.honest result.1 }
     ensures faults { OnOk result.0 (D.faults result.1 ≡ D.faults device.keeper.disk) }
 {
     opened_device_law::<D>();
     let failures = device.failures;
-    match open_export::<B, D, H>(alloc, device, &options) {
+    match open_export::<B, D, H, T>(alloc, device, &options) {
         Ok((export, passes, last)) => {
             let sessions = options.limits.sessions;
             let pool = WorkerPool::new(rt, alloc, registry, &export, passes, last, sessions);
@@ -176,15 +242,16 @@ fn end_of(served: Result<(), Refusal>, has_failed: bool, is_stored: bool) -> Res
 }
 
 // The export that the options ask for, a pass for each worker and one more, and one for the end.
-fn open_export<B, D, H>(
+fn open_export<B, D, H, T>(
     alloc: Global,
-    device: OpenDevice<D, H>,
+    device: OpenDevice<D, H, T>,
     options: &ServeOptions,
-) -> Result<(Export<B, D, H>, Vec<ClientPass<B>>, LastPass<B>), D>
+) -> Result<(Export<B, D, H, T>, Vec<ClientPass<B>>, LastPass<B>), D>
 where
     B: ExportName,
     D: Disk,
     H: ReadBeside,
+    T: Trust,
     requires board { device.blank.board ≡ B.board }
     requires named { device.blank.opening ≡ B.opening }
     requires image { device.keeper.geometry.blocks ≡ B.image.blocks }
@@ -192,12 +259,13 @@ where
     requires start { B.trusted → LeavesOnly B.start (D.state device.keeper.disk) (λ content. StandsFor content B.image B.opening) }
     requires vouches { (handle : H) → device.beside ≡ Some handle → (read : SpanRead) → H.vouches handle read → B.vouches read }
     requires geometry { device.keeper.geometry ≡ B.geometry }
+    requires log { T.logs → IsLogOf B.opening B.image B.vouches B.trusted options.now.mode T.trusted T.mode T.image }
     ensures mode { IfOk result (λ made. made.0.mode ≡ options.now.mode) }
     ensures passes { IfOk result (λ made. vec_len made.1 ≡ options.now.workers + 1) }
     ensures last { IfOk result (λ made. made.2 ≡ record { pass = new_pass device.keeper.count; roster = record { made = options.now.workers + 1; calls = [] } }) }
     ensures back { IfErr result (λ disk. disk ≡ device.keeper.disk) }
 {
-    Export::<B, D, H>::open(
+    Export::<B, D, H, T>::open(
         alloc,
         device,
         options.frames,
@@ -207,10 +275,10 @@ where
 }
 
 // Serves clients until all threads have ended; why it couldn't begin, and the pass of the end.
-fn serve_clients<B, D, H, R, G>(
+fn serve_clients<B, D, H, T, R, G>(
     rt: &R,
     pool: WorkerPool<'_, B>,
-    export: &Export<B, D, H>,
+    export: &Export<B, D, H, T>,
     options: ServeOptions,
     name: OfferedName<'_>,
     watch: G,
@@ -219,6 +287,7 @@ where
     B: ExportName + Send + Sync,
     D: Disk + Send,
     H: ReadBeside + Send + Sync,
+    T: Trust + Send + Sync,
     R: Threads + Wait + Clock + Sync,
     G: SyncPoints + Log + Copy + Send + Sync,
 {
@@ -245,11 +314,15 @@ where
 }
 
 // Workers beside a flusher, a checkpointer and a thread for each listener, until all have ended.
-fn run_threads<B, D, H, R, G>(rt: &R, server: &Server<'_, B, D, H, R, G>) -> Result<(), Refusal>
+fn run_threads<B, D, H, T, R, G>(
+    rt: &R,
+    server: &Server<'_, B, D, H, T, R, G>,
+) -> Result<(), Refusal>
 where
     B: ExportName + Send + Sync,
     D: Disk + Send,
     H: ReadBeside + Send + Sync,
+    T: Trust + Send + Sync,
     R: Threads + Wait + Clock + Sync,
     G: SyncPoints + Log + Copy + Send + Sync,
 {
@@ -260,11 +333,12 @@ where
     )
 }
 
-impl<'a, B, D, H, R, G> Server<'a, B, D, H, R, G>
+impl<'a, B, D, H, T, R, G> Server<'a, B, D, H, T, R, G>
 where
     B: ExportName + Send + Sync,
     D: Disk + Send,
     H: ReadBeside + Send + Sync,
+    T: Trust + Send + Sync,
     R: Wait + Clock + Sync,
     G: SyncPoints + Log + Copy + Send + Sync,
 {

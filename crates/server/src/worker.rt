@@ -10,6 +10,7 @@ use export::{
     ClientPass, Export, ExportFigures, ExportName, LastPass, ReadBeside, RetiredPass, SyncPoints,
 };
 use front_end::{OnFault, ServeOptions, WhenFull};
+use marks::Trust;
 use negotiation::{End, OfferedName, serve_session};
 use std::alloc::Global;
 use std::cell::Cell;
@@ -60,11 +61,11 @@ pub(crate) struct WorkerPool<'a, B: ExportName> {
 
 impl<'a, B: ExportName> WorkerPool<'a, B> {
     /// For so many sessions; 0 for no end. The last of the passes is that of whoever has all stored.
-    pub(crate) fn new<D: Disk, H: ReadBeside, R: Wait>(
+    pub(crate) fn new<D: Disk, H: ReadBeside, T: Trust, R: Wait>(
         rt: &R,
         alloc: Global,
         registry: &'a ClientRegistry,
-        export: &Export<B, D, H>,
+        export: &Export<B, D, H, T>,
         passes: Vec<ClientPass<B>>,
         last: LastPass<B>,
         sessions: u64,
@@ -101,10 +102,10 @@ impl<'a, B: ExportName> WorkerPool<'a, B> {
     }
 
     /// Takes a pass for good, from the worker of a slot that takes no more clients; whether it was the last one.
-    pub(crate) fn retire<D: Disk, H: ReadBeside, R: Wait>(
+    pub(crate) fn retire<D: Disk, H: ReadBeside, T: Trust, R: Wait>(
         &self,
         rt: &R,
-        export: &Export<B, D, H>,
+        export: &Export<B, D, H, T>,
         slot: usize,
         pass: ClientPass<B>,
     ) -> bool {
@@ -117,10 +118,10 @@ impl<'a, B: ExportName> WorkerPool<'a, B> {
     }
 
     /// The figures of an export, which the pass of the end learns of.
-    pub(crate) fn figures<D: Disk, H: ReadBeside, R: Wait + Clock>(
+    pub(crate) fn figures<D: Disk, H: ReadBeside, T: Trust, R: Wait + Clock>(
         &self,
         rt: &R,
-        export: &Export<B, D, H>,
+        export: &Export<B, D, H, T>,
     ) -> ExportFigures {
         export.figures(rt, &mut self.last.lock(rt))
     }
@@ -131,7 +132,10 @@ impl<'a, B: ExportName> WorkerPool<'a, B> {
     }
 
     /// The pass of the end.
-    pub(crate) fn into_last<D: Disk, H: ReadBeside>(self, export: &Export<B, D, H>) -> LastPass<B> {
+    pub(crate) fn into_last<D: Disk, H: ReadBeside, T: Trust>(
+        self,
+        export: &Export<B, D, H, T>,
+    ) -> LastPass<B> {
         let mut last = self.last.into_inner();
         if let Some(storing) = self.storing.into_inner() {
             export.join(&mut last, storing);
@@ -166,8 +170,15 @@ pub(crate) enum Task {
     Accept(usize),
 }
 
-impl<'a, B: ExportName, D: Disk, H: ReadBeside, R: Wait + Clock, G: SyncPoints + Copy> Watched
-    for Server<'a, B, D, H, R, G> {
+impl<
+    'a,
+    B: ExportName,
+    D: Disk,
+    H: ReadBeside,
+    T: Trust,
+    R: Wait + Clock,
+    G: SyncPoints + Copy,
+> Watched for Server<'a, B, D, H, T, R, G> {
     fn figures(&self) -> ExportFigures {
         self.pool.figures(self.rt, self.export)
     }
@@ -190,24 +201,25 @@ impl<'a, B: ExportName, D: Disk, H: ReadBeside, R: Wait + Clock, G: SyncPoints +
 
 /// What the threads of a server have in common.
 #[derive(Drop)]
-pub(crate) struct Server<'a, B: ExportName, D: Disk, H: ReadBeside, R, G> {
+pub(crate) struct Server<'a, B: ExportName, D: Disk, H: ReadBeside, T: Trust, R, G> {
     pub rt: &'a R,
     pub pool: &'a WorkerPool<'a, B>,
-    pub export: &'a Export<B, D, H>,
+    pub export: &'a Export<B, D, H, T>,
     pub options: ServeOptions,
     // The name that clients ask for the export by.
     pub name: OfferedName<'a>,
     pub watch: G,
 }
 
-impl<'a, B: ExportName, D: Disk, H: ReadBeside, R: Wait + Clock, G: SyncPoints + Log + Copy> Server<
+impl<
     'a,
-    B,
-    D,
-    H,
-    R,
-    G,
-> {
+    B: ExportName,
+    D: Disk,
+    H: ReadBeside,
+    T: Trust,
+    R: Wait + Clock,
+    G: SyncPoints + Log + Copy,
+> Server<'a, B, D, H, T, R, G> {
     /// Does a task to its end.
     pub(crate) fn run(&self, task: Task) {
         let mut watch = self.watch;

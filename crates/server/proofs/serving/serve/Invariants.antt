@@ -1,20 +1,11 @@
-use Rattle.std.specs.Prelude.{◌≡◌, Some}
-use Rattle.export.specs.Trusted.{IsTrusted, image_found}
+use Rattle.export.specs.Trusted.{IsTrustedWith, image_found}
 use Rattle.server.proofs.serving.serve.Given as goal
 
--- the board that was just made
-abbrev pub ghosts-serve_over-B-BoardName : goal.ghosts-serve_over-B-BoardName
-ghosts-serve_over-B-BoardName g a = record { board = a.device.blank.board; opening = a.device.blank.opening }
-
--- the sizes of the device
-abbrev pub ghosts-serve_over-B-ExportName : goal.ghosts-serve_over-B-ExportName
-ghosts-serve_over-B-ExportName g a = record { geometry = a.device.keeper.geometry }
-
--- the image that was found, what is trusted of the device, and what its second handle vouches for
-abbrev pub ghosts-serve_over-B-ImageName : goal.ghosts-serve_over-B-ImageName
-ghosts-serve_over-B-ImageName g a = record {
+-- a log of the mode that the options say, and of the image that was found; it trusts the device and what its second handle vouches for
+abbrev pub ghosts-serve_logged : goal.ghosts-serve_logged
+ghosts-serve_logged g a = record {
+  logs = Unit {0};
+  trusted = IsTrustedWith g.D.Disk.state g.D.Disk.honest g.H.ReadBeside.vouches a.device.keeper a.device.beside (image_found g.D.Disk.state a.device.keeper);
+  mode = a.options.mode;
   image = image_found g.D.Disk.state a.device.keeper;
-  start = g.D.Disk.state a.device.keeper.disk;
-  trusted = IsTrusted g.D.Disk.state g.D.Disk.honest a.device.keeper (image_found g.D.Disk.state a.device.keeper);
-  vouches = λ read. (handle : g.row.H.Denot) × (a.device.beside ≡ Some handle) × g.H.ReadBeside.vouches handle read;
 }

@@ -1,0 +1,20 @@
+use Rattle.std.specs.Prelude.{◌≡◌, Some}
+use Rattle.export.specs.Trusted.{IsTrusted, image_found}
+use Rattle.server.proofs.serving.serve_logged.Given as goal
+
+-- the board that was just made
+abbrev pub ghosts-serve_over-B-BoardName : goal.ghosts-serve_over-B-BoardName
+ghosts-serve_over-B-BoardName g a = record { board = a.device.blank.board; opening = a.device.blank.opening }
+
+-- the sizes of the device
+abbrev pub ghosts-serve_over-B-ExportName : goal.ghosts-serve_over-B-ExportName
+ghosts-serve_over-B-ExportName g a = record { geometry = a.device.keeper.geometry }
+
+-- the image that was found, what is trusted of the device, and what its second handle vouches for
+abbrev pub ghosts-serve_over-B-ImageName : goal.ghosts-serve_over-B-ImageName
+ghosts-serve_over-B-ImageName g a = record {
+  image = image_found g.D.Disk.state a.device.keeper;
+  start = g.D.Disk.state a.device.keeper.disk;
+  trusted = IsTrusted g.D.Disk.state g.D.Disk.honest a.device.keeper (image_found g.D.Disk.state a.device.keeper);
+  vouches = λ read. (handle : g.row.H.Denot) × (a.device.beside ≡ Some handle) × g.H.ReadBeside.vouches handle read;
+}
