@@ -26,6 +26,6 @@ is_state kind state = nat_eq (code_of state) (code_of kind)
 abbrev pub state_at : List Kind → ℕ → Kind
 state_at states block = slice_index_or states block Hole
 
--- the states of so many blocks by their codes
+-- the states of this many blocks by their codes
 abbrev pub states_of : ℕ → List ℕ → List Kind
 states_of blocks bytes = map (λ block. kind_of (code_at bytes block)) (range_with_len 0 blocks)

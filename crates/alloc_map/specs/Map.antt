@@ -13,7 +13,7 @@ pub record IsMapOf (bytes : List ℕ) (states : List Kind) : Type 0 where
 abbrev pub IsBadMap : ℕ → List ℕ → Type 0
 IsBadMap blocks bytes = (block : ℕ) × ((code_at bytes block ≡ 3) ⊎ ((blocks ≤ block) × (0 < code_at bytes block)))
 
--- bytes that are a map of so many blocks
+-- bytes that are a map of this many blocks
 pub record IsMap (blocks : ℕ) (bytes : List ℕ) : Type 0 where
   pub few : blocks ≤ 16777216
   pub size : length bytes ≡ map_bytes_of blocks

@@ -11,7 +11,7 @@ pub record IsRun (states : List Kind) (block to : ℕ) (run : Run) : Type 0 wher
   pub same : (k : ℕ) → k < run.blocks → state_at states (block + k) ≡ run.kind
   pub longest : block + run.blocks < to → state_at states (block + run.blocks) ≢ run.kind
 
--- the longest runs from this block on before `to`, each behind the one before it: all of them, or the first `limit`
+-- the longest runs from this block on before `to`, each after the one before it: all of them, or the first `limit`
 abbrev pub AreRuns : List Kind → ℕ → ℕ → ℕ → List Run → Type 0
 AreRuns states block to limit [] = (to ≤ block) ⊎ (limit ≡ 0)
 AreRuns states block to limit (run ∷ runs) =

@@ -38,7 +38,7 @@ pub fn code_in(bytes: &[u8], block: u64) -> u8
     (bytes[(block / 4) as usize] >> (2 * (block % 4))) % 4
 }
 
-// Whether the codes are those of a map of so many blocks.
+// Whether the codes are those of a map of this many blocks.
 pub fn has_good_codes(blocks: u64, bytes: &[u8]) -> bool
     requires few { blocks ≤ 16777216 }
     requires size { length bytes.now ≡ map_bytes_of blocks }
@@ -98,7 +98,7 @@ fn set_bytes(bytes: &mut Vec<u8>, from: u64, to: u64, code: u8)
     fill(bytes, at, (to / 4) as usize - at, ONES_BYTE * code);
 }
 
-// Makes so many bytes from `at` on this one.
+// Makes this many bytes from `at` on this one.
 fn fill(bytes: &mut Vec<u8>, at: usize, count: usize, byte: u8)
     requires { at + count ≤ length bytes.old.items }
     ensures { bytes.new.items ≡ patched bytes.old.items at (replicate count byte) }
@@ -154,7 +154,7 @@ fn same_ahead(bytes: &[u8], block: u64, to: u64, code: u8) -> u64
     0
 }
 
-// Where the longest run ends that begins with this block, before `to`.
+// The end of the longest run that begins with this block, `to` at most.
 pub fn run_end(bytes: &[u8], block: u64, to: u64) -> u64
     requires inside { to ≤ 4 * length bytes.now }
     requires before { block < to }

@@ -43,7 +43,7 @@ impl Model for AllocMap {
     ghost invariant = { λ map. IsMap map.blocks map.bytes.items };
 }
 
-// The bytes of the map of so many blocks.
+// The bytes of the map of this many blocks.
 fn map_bytes(blocks: u64) -> usize
     requires { blocks ≤ 16777216 }
     ensures { result ≡ map_bytes_of blocks }
@@ -52,7 +52,7 @@ fn map_bytes(blocks: u64) -> usize
 }
 
 impl AllocMap {
-    /// The map of an image of so many blocks, which are all holes. Refusal 0 (no memory).
+    /// The map of an image of `blocks` blocks, all of them holes. Refusal 0 (no memory).
     pub fn new(alloc: Global, blocks: u64) -> Result<AllocMap, AllocError>
         requires { blocks ≤ 16777216 }
         ensures { IfOk result (λ map. map ≡ replicate blocks Kind.Hole) }
@@ -63,8 +63,8 @@ impl AllocMap {
         })
     }
 
-    /// The map of an image of so many blocks that the bytes of a map slot are; it keeps these very bytes. It looks at
-    /// them by the steps of `runs`, and takes no memory. Refusal 6 (bad map).
+    /// The map of an image of `blocks` blocks, read from the bytes of a map slot, which it keeps. It looks at them in the
+    /// steps of `runs`, and takes no memory. Refusal 6 (bad map).
     pub fn from_bytes(blocks: u64, bytes: Vec<u8>) -> Result<AllocMap, BadMap>
         requires few { blocks ≤ 16777216 }
         requires size { length bytes.items ≡ map_bytes_of blocks }
@@ -122,8 +122,8 @@ impl AllocMap {
         }
     }
 
-    /// Gives so many blocks from the first one on this state: whole bytes of the map at once, and the blocks at the edges
-    /// one by one.
+    /// Gives `blocks` blocks from `first` on this state: whole bytes of the map at once, and the blocks at the edges one by
+    /// one.
     pub fn set_range(&mut self, first: u64, blocks: u64, kind: Kind)
         requires { first + blocks ≤ length self.old }
         ensures { self.new ≡ patched self.old first (replicate blocks kind) }

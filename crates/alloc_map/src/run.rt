@@ -1,6 +1,6 @@
 use image_model::Kind;
 
-/// So many blocks in a row that have this state.
+/// Blocks one after another that have one state.
 #[derive(Clone, Copy, PartialEq, Eq)]
 pub struct Run {
     pub blocks: u64,

@@ -132,7 +132,7 @@ more_held keeper state base fronts last holds group after now count sound count_
     count_is base_is geometry map
     (λ block offset small none. more_stay keeper state _ _ holds.keeps group after now stored from bytes (block_at holds.keeps.stands.header.geometry block + offset) (omega arith))
 
--- the number behind the count is the next, where there is one
+-- the number after the count is the next, where there is one
 pub count_below : (next first count : ℕ) → next ≡ next_number count → first < 18446744073709551616 → first ≡ count + 1 → (1 ≤ next) × (first ≡ next)
 count_below next first count is small same = (omega (arith, is), omega (arith, is))
 

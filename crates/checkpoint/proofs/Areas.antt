@@ -26,7 +26,7 @@ use Rattle.regions.specs.Layout.{areas_in, behind, next_of, ring}
 use Rattle.regions.specs.laws.Ring.{area_high, ring-last}
 use Rattle.checkpoint.specs.Keeper.{AreSized, IsSized}
 
--- an area is damaged behind others that are not
+-- an area is damaged after others that are not
 one_damaged : (count n total first : ℕ) (geometry : Geometry) (next : ℕ) (lists : List (List StoredGroup)) (content : List ℕ) → n < total → HoldLists (ring count n first) content geometry next lists
     → IsDamaged (area_of geometry (behind count n first)) (behind_lists next lists) content → IsOneDamaged (ring count total first) content geometry next
 one_damaged count n zero first geometry next lists content below holds damaged = absurd (omega (arith, below))
@@ -36,7 +36,7 @@ one_damaged count (suc n) (suc total) first geometry next [] content below holds
 one_damaged count (suc n) (suc total) first geometry next (groups ∷ lists) content below holds damaged =
     inr (groups, holds.0, one_damaged count n total (next_of count first) geometry (next_behind next groups) lists content (omega (arith, below)) holds.1 damaged)
 
--- these checkpoints are of the first areas in use, whose lists are held, and the next number is that behind them
+-- these checkpoints are of the first areas in use, whose lists are held, and the next number is that after them
 pub record AreHeldSoFar (state : State) (header : Header) (n : ℕ) (plans : List PlanState) (next : ℕ) : Type 0 where
   pub lists : List (List StoredGroup)
   pub held : AreHeld (ring (areas_in header.geometry) n header.first_area) header.geometry (next_number header.base) lists (earlier_of plans) state
@@ -80,7 +80,7 @@ module _ (header : Header) (n : ℕ) (plans : List PlanState) (before after : St
       (held_lists _ header.geometry (next_number header.base) so_far.lists (earlier_of plans) after still_held))
       (subst (λ (first : ℕ). IsDamaged (area_of header.geometry index) first content) so_far.next_is damaged)
 
--- all of those in front of the last are read, and the last
+-- all of those before the last are read, and the last
 pub all_held : (header : Header) (plans : List PlanState) (before after : State) (next : ℕ) → AreHeldSoFar before header header.in_front plans next → before.seen ≡ after.seen → IsAllSynced after
     → (area : AreaState) → IsPlaced area header.geometry (last_area header) → HoldsList area next after → (lists : List (List StoredGroup)) × HoldsAreas after header lists (earlier_of plans) area
 all_held header plans before after next so_far same synced area placed holds = (
@@ -95,7 +95,7 @@ all_held header plans before after next so_far same synced area placed holds = (
   },
 )
 
--- the number behind those that stand in front
+-- the number after those that stand in front
 pub last-push : (base : ℕ) (plans : List PlanState) (plan : PlanState) → last_turned base (turned_of (plans ++ plan ∷ [])) ≡ last_number plan.first
 last-push base [] plan = refl
 last-push base (first ∷ plans) plan = last-push (last_number first.first) plans plan

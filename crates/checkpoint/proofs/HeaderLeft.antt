@@ -31,7 +31,7 @@ module _ {D : Type 0} (keeper : KeeperState D) (state : State) (image : Image) (
   pub header_left : (content : List ℕ) → MayLeave state content → HasHeader keeper.geometry keeper.generation content
   header_left content left = header_same content left.size (λ place below. left.same place (low_synced keeper state image number keeps place (omega (arith, below))))
 
-  -- and so does one in a write behind the slots
+  -- and so does one in a write after the slots
   pub header_torn : (offset count : ℕ) → 8192 ≤ offset → (content : List ℕ) → MayLeaveTorn state offset count content → HasHeader keeper.geometry keeper.generation content
   header_torn offset count above content left =
       header_same content left.size (λ place below. left.same place (low_synced keeper state image number keeps place (omega (arith, below))) (λ within. omega (arith, within.0, above, below)))

@@ -28,7 +28,7 @@ use Rattle.device_image.specs.laws.Sole.{one_image, one_number}
 use Rattle.device_image.specs.laws.HeaderReplaced.{follows}
 use Rattle.checkpoint.proofs.Refused.{never_refused}
 
--- and the same behind lists of such groups
+-- and the same after lists of such groups
 pub record FollowsLists (last next : ℕ) (lists : List (List StoredGroup)) : Type 0 where
   pub following : behind_lists next lists ≡ next_number (last + length (all_changes lists))
   pub fits : last + length (all_changes lists) < 18446744073709551616
@@ -57,7 +57,7 @@ module _ (state : State) (header : Header) (slot : Side) (states : List Kind) (p
   pub held : HoldLists (areas_in_front header) state.seen header.geometry (next_number header.base) opened.areas.front
   held = held_lists _ _ _ _ (earlier_of plans) state opened.areas.earlier_held
 
-  -- the number in front of the area's next is that of the last command
+  -- the number before the area's next is that of the last command
   pub last_number : (count : ℕ) → count ≡ (area.next + 18446744073709551615) % 18446744073709551616 → count ≡ header.base + length (all_changes opened.lists)
   last_number count is =
       let first = follows_lists _ state.seen header.geometry _ header.base opened.areas.front fits refl held in

@@ -86,7 +86,7 @@ module _ {D : Type 0} where
   pub never_one : (keeper : KeeperState D) → keeper.phase ≡ Mapped → keeper.phase ≡ One → ⊥
   never_one keeper is one = cc
 
-  -- the next header, of a keeper for which so many have come into force
+  -- the next header, of a keeper for which this many have come into force
   pub step_next : (old mid : KeeperState D) (headers : ℕ) (before after : State) → mid.geometry ≡ old.geometry → mid.generation ≡ old.generation + headers → LeavesOnly before after (HasHeaderOrNext mid.geometry mid.generation) → LeavesOnly before after (HasHeaderOrNext old.geometry (old.generation + headers))
   step_next old mid headers before after sizes number call = subst (λ (n : ℕ). LeavesOnly before after (HasHeaderOrNext old.geometry n)) number (subst (λ (size : Geometry). LeavesOnly before after (HasHeaderOrNext size mid.generation)) sizes call)
 

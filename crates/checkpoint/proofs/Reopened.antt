@@ -67,7 +67,7 @@ headers_last [] used is = ap headers_at is
 headers_last (group ∷ groups) zero is = absurd (omega (arith, is, sum_by-cons size_of group groups))
 headers_last (group ∷ groups) (suc place) is = refl
 
--- a header for each list in front of the last, and those for the last
+-- a header for each list before the last, and those for the last
 headers_after : (first : List StoredGroup) (front : List (List StoredGroup)) (groups : List StoredGroup) → headers_from first (front ++ groups ∷ []) ≡ length front + 1 + headers_for_last groups
 headers_after first [] groups = omega arith
 headers_after first (next ∷ front) groups = let rest = headers_after next front groups in omega (arith, rest)

@@ -55,7 +55,7 @@ kind_later touch None kind = refl
 kind_later touch (Some (Put place)) kind = refl
 kind_later touch (Some (Clear cleared)) kind = refl
 
--- the lists of the areas in front of the last
+-- the lists of the areas before the last
 front_kind : (sides : List ℕ) (geometry : Geometry) (next : ℕ) (lists : List (List StoredGroup)) (areas : List AreaState) (state : State) → AreHeld sides geometry next lists areas state → (image : Image) (block : ℕ) → block < geometry.blocks
     → (apply_all (all_changes lists) image).kind block ≡ kind_after (last_touch_in block areas) (image.kind block)
 front_kind [] geometry next [] [] state held image block below = refl
@@ -71,7 +71,7 @@ front_kind (side ∷ sides) geometry next (groups ∷ lists) (area ∷ areas) st
     ∙ ap (λ (touch : Option Touch). kind_after touch (image.kind block)) (sym (held.1.touched block (omega (arith, below, held.0.blocks)))))
     ∙ kind_later (last_touch block area.touched) (last_touch_in block areas) (image.kind block)
 
--- the states behind these areas, by what touched each block last
+-- the states after these areas, by what touched each block last
 turned_states : (plans : List PlanState) (before turned : List Kind) → AreStatesTurned plans before turned → (block : ℕ) → block < length before
     → state_at turned block ≡ kind_after (last_touch_in block (earlier_of plans)) (state_at before block)
 turned_states [] before turned same block below = ap (λ (states : List Kind). state_at states block) same
@@ -95,7 +95,7 @@ module _ (state : State) (header : Header) (slot : Side) (states : List Kind) (p
       (ap all_changes opened.areas.are ∙ all_changes-append opened.areas.front (opened.areas.groups ∷ []) ∙ ap (λ (more : List Change). all_changes opened.areas.front ++ more) (append-nil (changes_of opened.areas.groups)))
       ∙ apply_all-append (all_changes opened.areas.front) (changes_of opened.areas.groups) base
 
-  -- the states in front of the last area
+  -- the states before the last area
   front_states : (after : List Kind) → length states ≡ header.geometry.blocks → AreStatesBehind plans area states after → (block : ℕ) → block < header.geometry.blocks
       → state_at after block ≡ kind_after (last_touch block area.touched) ((apply_all (all_changes opened.areas.front) base).kind block)
   unfolding base

@@ -34,7 +34,7 @@ use Rattle.checkpoint.specs.Keeper.{AreSized, IsSized, plans_of}
 use Rattle.checkpoint.specs.Steps.{IsFinishTime, behind_first, first_turned, phase_left, phase_with}
 use Rattle.checkpoint.specs.inner.Steps.{map_after, map_in, plans_behind}
 
--- the checkpoints once another one is behind them
+-- the checkpoints once another one is after them
 pub added : (old new : Option PlanState) (waiting more : List PlanState) (last : PlanState) → IfNone old ((new ≡ Some last) × (more ≡ []))
     → IfSome old (λ first. (new ≡ Some first) × (more ≡ waiting ++ last ∷ [])) → plans_of new more ≡ plans_of old waiting ++ last ∷ []
 added None new waiting more last none some = λ i. plans_of (none.0 i) (none.1 i)
@@ -61,7 +61,7 @@ pub turned-length : (plans : List PlanState) → length (turned_of plans) ≡ le
 turned-length [] = refl
 turned-length (plan ∷ plans) = ap suc (turned-length plans)
 
--- what is told of the checkpoints behind the first
+-- what is told of the checkpoints after the first
 pub turned-behind : (plans : List PlanState) → turned_of (plans_behind plans) ≡ behind_first (turned_of plans)
 turned-behind [] = refl
 turned-behind (plan ∷ plans) = refl
@@ -78,7 +78,7 @@ pub phase-behind : (plan : Option PlanState) (waiting : List PlanState) → AreU
 phase-behind None waiting are = refl
 phase-behind (Some plan) waiting are = uncopied-left waiting are
 
--- nothing is copied of the areas behind the first
+-- nothing is copied of the areas after the first
 pub uncopied_after : (old new : Option PlanState) (waiting more : List PlanState) (last : PlanState) → IfNone old ((new ≡ Some last) × (more ≡ []))
     → IfSome old (λ first. (new ≡ Some first) × (more ≡ waiting ++ last ∷ [])) → AreUncopied waiting → IsUncopied last → AreUncopied more
 uncopied_after None new waiting more last none some are is = subst AreUncopied (sym none.1) tt
@@ -286,7 +286,7 @@ module _ {D : Type 0} (keeper : KeeperState D) (state : State) (image : Image) (
           memory = record keeper.memory { header = header; slot = other_of slot; map = after; plans = rest };
         }) keeps.slotted)
 
--- what the keeper holds, once its last area stands in front of another
+-- what the keeper holds, once its last area stands before another
 pub rotate_held : {D : Type 0} (keeper : KeeperState D) (state : State) (base : Image) (fronts : List (List Change)) (last : List Change) (holds : Holds keeper state base fronts last) {extent : ℕ} (sound : IsSound extent state)
     (header : Header) (header_is : IsRenewed keeper.memory.header (with_next keeper.memory.header) header) (room : keeper.memory.header.in_front + 1 < areas_in keeper.memory.header.geometry)
     (from : ℕ) (from_is : from ≡ area_at keeper.geometry (behind (areas_in keeper.geometry) (suc keeper.memory.header.in_front) keeper.memory.header.first_area))
@@ -391,7 +391,7 @@ in_map keeper disk header plans rest map after plans_are same = λ i. record kee
   memory = record keeper.memory { header = header; slot = other_of keeper.memory.slot; map = same i; plans = plans_are i };
 }
 
--- the invariant of the checkpoints once another one is behind them
+-- the invariant of the checkpoints once another one is after them
 sized_more : (plans : List PlanState) (plan : PlanState) (geometry : Geometry) (extent : ℕ) → AreSized plans geometry extent → IsSized plan.first geometry extent → AreSized (plans ++ plan ∷ []) geometry extent
 sized_more [] plan geometry extent are is = (is, tt)
 sized_more (first ∷ plans) plan geometry extent are is = (are.0, sized_more plans plan geometry extent are.1 is)
@@ -457,7 +457,7 @@ sized_read (Some first) waiting more geometry extent count are none sized many =
       many = many ∙ sym (ap (λ (plans : List PlanState). length plans) are);
     }
 
--- the area behind those in use, once its list is empty
+-- the area after those in use, once its list is empty
 pub next_sized : (area : AreaState) (geometry : Geometry) (n first extent : ℕ) → first < areas_in geometry → area.from ≡ area_at geometry (behind (areas_in geometry) n first) → area.bytes ≡ area_size geometry → area.blocks ≡ geometry.blocks
     → extent ≡ device_bytes_of geometry.blocks geometry.area → IsSized area geometry extent
 next_sized area geometry n first extent inside from bytes blocks size = record {
@@ -475,7 +475,7 @@ rotated_left keeper plan commands blocks plan_is remembers =
     ∙ ap (λ (b : ℕ). count_puts b keeper.memory.area.touched) blocks
     ∙ left_dirty keeper commands remembers
 
--- the number of the last command in front of the last area once the first was let go
+-- the number of the last command before the last area once the first was let go
 pub last_behind : (old new : Option PlanState) (waiting more : List PlanState) (base now : ℕ) → 0 < length (plans_of old waiting) → plans_of new more ≡ waiting → now ≡ first_turned base (turned_of (plans_of old waiting))
     → last_turned base (turned_of (plans_of old waiting)) ≡ last_turned now (turned_of (plans_of new more))
 last_behind None new waiting more base now some are now_is = absurd (omega (arith, some))

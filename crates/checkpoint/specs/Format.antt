@@ -27,7 +27,7 @@ first_header geometry = record {
   first_inside = areas_some geometry.layout;
 }
 
--- A device that was just formatted: its header is in force, in slot 0, with zeroes behind it up to the end of the slot, and it
+-- A device that was just formatted: its header is in force, in slot 0, with zeroes after it up to the end of the slot, and it
 -- stands for an image of holes of that size.
 pub record IsFormatted (content : List ℕ) (geometry : Geometry) : Type 0 where
   pub header : HoldsHeader content (length content) (first_header geometry) Zero

@@ -18,7 +18,7 @@ pub record HasHeader (geometry : Geometry) (generation : ℕ) (content : List �
 abbrev pub HasHeaderOrNext : Geometry → ℕ → List ℕ → Type 0
 HasHeaderOrNext geometry generation content = HasHeader geometry generation content ⊎ HasHeader geometry (generation + 1) content
 
--- At most so many headers come into force between two devices, one after another, each with the generation after the one before
+-- At most this many headers come into force between two devices, one after another, each with the generation after the one before
 -- it, and none with other sizes or in another layout. Between two headers there is a device from which a crash leaves the first of
 -- the two alone.
 abbrev pub HeadersFollow : {D : Type 0} → (D → State) → Geometry → ℕ → ℕ → State → State → Type 0

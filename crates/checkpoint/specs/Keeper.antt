@@ -21,12 +21,12 @@ abbrev pub AreSized : List PlanState → Geometry → ℕ → Type 0
 AreSized [] geometry extent = Unit {0}
 AreSized (plan ∷ plans) geometry extent = IsSized plan.first geometry extent × AreSized plans geometry extent
 
--- the checkpoint that is under way, and those behind it
+-- the checkpoint that is under way, and those after it
 abbrev pub plans_of : Option PlanState → List PlanState → List PlanState
 plans_of None waiting = []
 plans_of (Some plan) waiting = plan ∷ waiting
 
--- the bytes of an area that are taken once the group is added and a gate stands behind it
+-- the bytes of an area that are taken once the group is added and a gate stands after it
 abbrev pub end_after : {D : Type 0} → KeeperState D → Numbered → ℕ
 end_after keeper group = keeper.used + 18 + bodies_of group.commands
 

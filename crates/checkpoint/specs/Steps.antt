@@ -33,13 +33,13 @@ left_in One = 0
 left_in (Copying left) = left
 left_in Mapped = 0
 
--- the phase once another area is in use, where the last one leaves so many blocks to copy
+-- the phase once another area is in use, where the last one leaves this many blocks to copy
 abbrev pub phase_with : Phase → ℕ → Phase
 phase_with One left = Copying left
 phase_with (Copying more) left = Copying more
 phase_with Mapped left = Mapped
 
--- the keeper, its device as it then is and what it then remembers, once another area is in use; so many blocks are to be
+-- the keeper, its device as it then is and what it then remembers, once another area is in use; this many blocks are to be
 -- copied
 abbrev pub rotated_by : {D : Type 0} → KeeperState D → D → Memory → KeeperState D
 rotated_by keeper disk memory = record keeper {
@@ -67,12 +67,12 @@ abbrev pub first_turned : ℕ → List ℕ → ℕ
 first_turned base [] = base
 first_turned base (first ∷ rest) = first
 
--- the phase where so many blocks are left to copy of each area in front of the last, and no map is written
+-- the phase where this many blocks are left to copy of each area before the last, and no map is written
 abbrev pub phase_left : List ℕ → Phase
 phase_left [] = One
 phase_left (left ∷ lefts) = Copying left
 
--- once so many blocks more are copied
+-- once this many blocks more are copied
 abbrev pub copied_by : {D : Type 0} → KeeperState D → ℕ → D → Memory → KeeperState D
 copied_by keeper blocks disk memory = record keeper { disk = disk; lefts = fewer blocks keeper.lefts; phase = Copying (left_in keeper.phase - blocks); memory = memory }
 

@@ -34,7 +34,7 @@ pub record HasLargeAreas (content : List ℕ) : Type 0 where
   pub layout : header.geometry.layout ≡ One
   pub large : 4194304 ≤ header.geometry.area
 
--- What a refusal of an upgrade says of the content that was found, and of what is read after it. Where the numbers are full
+-- What a refusal of an upgrade says of the content that was found, and of what is read after it. If the numbers are full
 -- or the areas too small it stands for the same: the first of them comes where the recovery wants another header, or all is
 -- recovered and layout 2 does; the second where all is recovered.
 abbrev pub IsUpgradeRefused : KeeperFault → List ℕ → List ℕ → Type 0

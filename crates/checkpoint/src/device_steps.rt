@@ -80,7 +80,7 @@ pub fn empty_area<D: Disk>(disk: &mut D, area: &mut Area) -> Result<(), DeviceFa
     disk.sync()
 }
 
-// Takes an area into use behind those of the header that is in force in this slot: its list is empty, and then this header
+// Takes an area into use after those of the header that is in force in this slot: its list is empty, and then this header
 // is in force.
 pub fn begin_turn<D: Disk>(
     disk: &mut D,

@@ -30,7 +30,7 @@ pub enum KeeperFault {
     AreaFull,
     /// 11: the group's first number isn't the next.
     OutOfOrder,
-    /// 12: behind an open gate stands no whole group.
+    /// 12: no whole group stands after an open gate.
     DamagedGroup,
     /// 15: the checkpoint isn't at this step.
     NotNow,

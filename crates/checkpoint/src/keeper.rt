@@ -30,7 +30,7 @@ pub struct Keeper<D: Disk> {
     pub(crate) count: u64,
     // The states of the blocks at the base.
     pub(crate) map: AllocMap,
-    // The checkpoint that is under way, where more than one area is in use, and those of the areas behind the first.
+    // The checkpoint that is under way, where more than one area is in use, and those of the areas after the first.
     pub(crate) plan: Option<CopyPlan>,
     pub(crate) waiting: Vec<CopyPlan>,
     // The area that the next group goes to.
@@ -141,7 +141,7 @@ impl<D: Disk> Keeper<D> {
 }
 
 impl<D: Disk> Keeper<D> {
-    /// Stores the group behind all that is stored, and makes it stable.
+    /// Stores the group after all that is stored, and makes it stable.
     ///
     /// Refusals 0 (no memory), 1 (device fault), 10 (area full), 11 (out of order) and 16 (failed): the group comes back.
     /// After a device fault every later group is refused with 16 (failed), until the device is opened again; the other
@@ -166,7 +166,7 @@ impl<D: Disk> Keeper<D> {
         ensures faults_ok { OnOk result (D.faults self.new.disk ≡ D.faults self.old.disk) }
         ensures faults_err { IfErr result (λ refused. D.faults self.new.disk ≡ faults_by refused.0 (D.faults self.old.disk)) }
 
-        // On an honest device, where the image's size takes the group's commands: at `Ok` the keeper holds them behind
+        // On an honest device, where the image's size takes the group's commands: at `Ok` the keeper holds them after
         // the others, and where it keeps an image a crash at any moment leaves it without or with them.
         ensures held { D.honest self.old.disk → (base : Image) (fronts : List (List Change)) (last : List Change) → Holds self.old (D.state self.old.disk) base fronts last
             → AreChanges self.old.geometry.blocks (map change_of group.commands)

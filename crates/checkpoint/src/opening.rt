@@ -30,7 +30,7 @@ use regions::Regions;
 use std::alloc::{AllocError, Global};
 
 // What is read of a device: its header in force and the slot of it, the map that the header names, what is to be
-// copied of each area in use in front of the last, and the last one, to which the next group goes.
+// copied of each area in use before the last, and the last one, to which the next group goes.
 #[derive(Drop)]
 pub struct Opened {
     pub header: Header,
@@ -145,7 +145,7 @@ pub fn read_parts<D: Disk>(alloc: Global, disk: &mut D) -> Result<Opened, Keeper
     })
 }
 
-// Reads the areas in use, and answers what is to be copied of each of those in front of the last, and the last one.
+// Reads the areas in use, and answers what is to be copied of each of those before the last, and the last one.
 fn read_areas<D: Disk>(
     alloc: Global,
     disk: &mut D,
@@ -170,7 +170,7 @@ fn read_areas<D: Disk>(
     let geometry = &header.geometry;
     let regions = Regions::of(geometry);
     let mut plans = Vec::new(alloc);
-    // The number behind 2^64 - 1 is 0: no number is left.
+    // The number after 2^64 - 1 is 0: no number is left.
     let mut next = header.base.wrapping_add(1);
     for place in 0..header.in_front {
         let index = regions.area_behind(header.first_area, place);

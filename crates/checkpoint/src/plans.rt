@@ -4,7 +4,7 @@ ghost use Rattle.std.specs.Vec.{vec_capacity};
 
 use device_image::CopyPlan;
 
-// Adds the plan of another area behind those that are under way or wait; there is room for it.
+// Adds the plan of another area after those that are under way or wait; there is room for it.
 pub fn add_plan(plan: &mut Option<CopyPlan>, waiting: &mut Vec<CopyPlan>, last: CopyPlan)
     requires room { vec_len waiting.old < vec_capacity waiting.old }
     requires none { plan.old ≡ None → waiting.old.items ≡ [] }

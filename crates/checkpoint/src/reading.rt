@@ -16,9 +16,9 @@ use regions::Regions;
 use std::alloc::{AllocError, Global};
 
 impl<D: Disk> Keeper<D> {
-    /// Reads blocks from the first one on out of the data region, in one call of the device.
+    /// Reads blocks from `first` on out of the data region, in one call of the device.
     ///
-    /// A block that is data at the base, and that no command stored in front of the last area writes, gives its bytes at
+    /// A block that is data at the base, and that no command stored before the last area writes, gives its bytes at
     /// the base; another gives any bytes. Refusals 1 (device fault), and 16 (failed) after an earlier device fault; `into`
     /// then holds any bytes.
     pub fn read_base(&mut self, first: u64, into: &mut [u8]) -> Result<(), KeeperFault>
@@ -54,8 +54,7 @@ impl<D: Disk> Keeper<D> {
         }
     }
 
-    /// A copy of the map: the states of the blocks at the base. After a device fault it is that of before. Refusal 0 (no
-    /// memory).
+    /// A copy of the map: the states of the blocks at the base. A device fault doesn't change it. Refusal 0 (no memory).
     pub fn map(&self, alloc: Global) -> Result<AllocMap, AllocError>
         ensures blocks { IfOk result (λ map. length map ≡ self.now.geometry.blocks) }
         ensures remembered { IfOk result (λ map. map ≡ self.now.memory.map) }

@@ -24,8 +24,8 @@ use std::alloc::Global;
 const MOST_COPIED: u32 = 256;
 
 impl<D: Disk> Keeper<D> {
-    /// Opens the device, and recovers it: the checkpoints of areas in front of the last are ended one after another, and where
-    /// groups are left in the journal another one empties it.
+    /// Opens the device, and recovers it: the checkpoints of the areas before the last are completed one after another. If
+    /// groups are left in the journal, one more checkpoint empties it.
     ///
     /// It syncs and reads the device. If one area is in use and its list is empty, nothing is written; otherwise blocks are
     /// copied, up to 256 in one read and one write. It takes memory for two maps, because each new one is made while the old one
@@ -48,8 +48,8 @@ impl<D: Disk> Keeper<D> {
         // in the same sizes and layout, with a header that is one of those.
         ensures found { D.honest disk → (content : List ℕ) × IsOpening (D.state disk) D.state result content }
 
-        // Where nothing is unsynced at the start and the content stands for an image, the keeper keeps that one, only want
-        // of memory, a device fault and the last generation refuse it, and a crash at any moment leaves what stands for it.
+        // If nothing is unsynced at the start and the content stands for an image, the keeper keeps that image. Only lack of
+        // memory, a device fault or the last generation refuses it, and a crash at any moment leaves what stands for it.
         ensures same { D.honest disk → IsAllSynced (D.state disk) → (image : Image) (number : ℕ) → StandsFor (D.state disk).seen image number
             → IfOk result (λ keeper. Keeps keeper (D.state keeper.disk) image number × (keeper.base ≡ number)) }
         ensures passing { D.honest disk → IsAllSynced (D.state disk) → (image : Image) (number : ℕ) → StandsFor (D.state disk).seen image number
@@ -57,7 +57,7 @@ impl<D: Disk> Keeper<D> {
         ensures any_moment { D.honest disk → IsAllSynced (D.state disk) → (image : Image) (number : ℕ) → StandsFor (D.state disk).seen image number
             → LeavesOnly (D.state disk) (D.state (disk_after result)) (λ content. StandsFor content image number) }
 
-        // Where one area is in use and its list is empty, nothing is written.
+        // If one area is in use and its list is empty, nothing is written.
         ensures at_rest { D.honest disk → IsAllSynced (D.state disk) → IsAtRest (D.state disk).seen
             → LeavesOnly (D.state disk) (D.state (disk_after result)) (λ content. content ≡ (D.state disk).seen) }
     {

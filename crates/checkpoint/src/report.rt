@@ -19,11 +19,11 @@ use std::alloc::{AllocError, Global};
 /// What a device holds.
 #[derive(Clone, Copy, PartialEq, Eq)]
 pub struct Report {
-    /// How its areas lie.
+    /// Its layout.
     pub layout: Layout,
     /// How many blocks its image has.
     pub blocks: u64,
-    /// How many areas are in use in front of the last.
+    /// The number of areas in use before the last.
     pub in_front: u8,
     /// The number of the last command that map and data hold.
     pub base: u64,
@@ -38,7 +38,7 @@ pub struct Report {
 }
 
 impl<D: Disk> Keeper<D> {
-    /// What the device holds, which is read alone: it isn't even synced, and no checkpoint that is under way goes on.
+    /// Reports what the device holds. It only reads: it doesn't sync the device, or go on with a checkpoint that is under way.
     ///
     /// It takes memory for two maps, for what each command of the journal touched and
     /// the last touches of the blocks, and for 1 MiB while an area is scanned. Refusals 7 (no header), 8 (bad header), 6
@@ -49,7 +49,7 @@ impl<D: Disk> Keeper<D> {
         ensures faults_err { IfErr result (λ fault. D.faults disk.new ≡ faults_by fault (D.faults disk.old)) }
         ensures honest { D.honest disk.new ↔ D.honest disk.old }
 
-        // On an honest device nothing is written. Where nothing is unsynced, the report is of the image that the content
+        // On an honest device nothing is written. If nothing is unsynced, the report is of the image that the content
         // stands for, and a refusal says what is bad of the content.
         ensures only_read { D.honest disk.old → IsOnlyRead (D.state disk.old) (D.state disk.new) }
         ensures found { D.honest disk.old → IsAllSynced (D.state disk.old) → MatchResult result
@@ -77,7 +77,7 @@ impl<D: Disk> Keeper<D> {
     }
 }
 
-// The states of the blocks behind all areas in use, where this is the map in front of them.
+// The states of the blocks after all areas in use, where this is the map before them.
 fn states_behind(
     alloc: Global,
     map: AllocMap,

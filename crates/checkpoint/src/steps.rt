@@ -31,11 +31,11 @@ use regions::Regions;
 
 impl<D: Disk> Keeper<D> {
     /// Copies the next blocks, at most `most`, that follow one another in the image and in the area, in one read and one
-    /// write of the device, and answers how many. Its time is where several areas are in use and a block of
-    /// the first is left to copy.
+    /// write of the device, and answers how many. It is due if several areas are in use and a block of the first is left to
+    /// copy.
     ///
-    /// Of the blocks whose last touch in the first area is a put, in ascending order, their bytes go from there to the
-    /// data region. It takes memory for these bytes. Refusals 0 (no memory), 1 (device fault), 15 (not now) and 16 (failed).
+    /// It copies those blocks whose last touch in the first area is a put, in ascending order, from there to the data
+    /// region. It takes memory for their bytes. Refusals 0 (no memory), 1 (device fault), 15 (not now) and 16 (failed).
     pub fn copy_some(&mut self, most: u32) -> Result<u32, KeeperFault>
         requires { 1 ≤ most }
         ensures ok { IfOk result (λ blocks. (1 ≤ blocks) × (blocks ≤ most) × (self.new ≡ copied_by self.old blocks self.new.disk self.new.memory)) }
@@ -122,8 +122,8 @@ impl<D: Disk> Keeper<D> {
 }
 
 impl<D: Disk> Keeper<D> {
-    /// Takes the next area into use, behind those that are: groups go there from now on. Its time is where one isn't in use,
-    /// and the list of the last one that is isn't empty.
+    /// Takes the next area into use, after those that are: groups go there from now on. It is due if an area isn't in use, and
+    /// the last area in use isn't empty.
     ///
     /// The next area's first gate is closed and synced, and then the header changes. It takes memory for the last touches of
     /// the blocks, and for one more checkpoint that waits. Refusals 0 (no memory), 1 (device fault), 9 (numbers full),
@@ -145,7 +145,7 @@ impl<D: Disk> Keeper<D> {
         ensures left { (commands : List Change) → Remembers self.old commands → OnOk result (self.new.lefts ≡ self.old.lefts ++ len (dirty_blocks 0 commands) ∷ []) }
         ensures phase { (commands : List Change) → Remembers self.old commands → OnOk result (self.new.phase ≡ phase_with self.old.phase (len (dirty_blocks 0 commands))) }
 
-        // On an honest device: at `Ok` the commands of the last area stand in front of an empty list. A crash as for `copy_some`,
+        // On an honest device: at `Ok` the commands of the last area stand before an empty list. A crash as for `copy_some`,
         // but that the next header may be in force.
         ensures held { D.honest self.old.disk → (base : Image) (fronts : List (List Change)) (last : List Change) → Holds self.old (D.state self.old.disk) base fronts last
             → OnOk result (Holds self.new (D.state self.new.disk) base (fronts ++ last ∷ []) []) }
@@ -191,7 +191,7 @@ impl<D: Disk> Keeper<D> {
         self.header.in_front as u16 + 1 < self.header.geometry.areas() as u16
     }
 
-    // The next area in use too, behind those that are.
+    // The next area in use too, after those that are.
     fn with_next(&self) -> HeaderChange
         requires { self.now.memory.header.in_front + 1 < areas_in self.now.memory.header.geometry }
         ensures { result ≡ with_next self.now.memory.header }
@@ -220,7 +220,7 @@ impl<D: Disk> Keeper<D> {
         }
     }
 
-    // The area behind those in use, whose list is empty.
+    // The area after those in use, whose list is empty.
     fn next_area(&self) -> Area
         requires { self.now.memory.header.in_front + 1 < areas_in self.now.memory.header.geometry }
         ensures { result ≡ record {
@@ -246,7 +246,7 @@ impl<D: Disk> Keeper<D> {
 }
 
 impl<D: Disk> Keeper<D> {
-    /// Writes the map after the first area into the map slot that isn't in force, and syncs. Its time is where several areas
+    /// Writes the map after the first area into the map slot that isn't in force, and syncs. It is due if several areas
     /// are in use, no block is left to copy, and the map isn't written.
     ///
     /// It takes memory for one map. Refusals 0 (no memory), 1 (device fault), 15 (not now) and 16 (failed).
@@ -299,8 +299,8 @@ impl<D: Disk> Keeper<D> {
         }
     }
 
-    /// Lets the first area go: it is no longer in use, and map and data hold what it did. Its time is where the map is
-    /// written.
+    /// Ends the checkpoint of the first area, which is no longer in use: map and data hold what it held. It is due once the map
+    /// is written.
     ///
     /// The header changes. Refusals 1 (device fault), 9 (numbers full), 15 (not now) and 16 (failed).
     pub fn finish(&mut self) -> Result<(), KeeperFault>

@@ -24,11 +24,11 @@ impl<D: Disk> Keeper<D> {
     /// Opens the device as [`Keeper::open`] does, and makes layout 2 of layout 1: four areas in the place of two, each of half
     /// the bytes.
     ///
-    /// The journal is empty then, so one change of the header does: the area in use begins where it did, and map slot and base
-    /// stay. A device of layout 2 is opened alone.
+    /// The journal is then empty, so one change of the header is enough: the area in use keeps its beginning, and map slot and
+    /// base stay. A device of layout 2 is only opened.
     ///
-    /// A refusal hands the device back: those of [`Keeper::open`]; 22 (area too small), where its areas would be too small; 9
-    /// (numbers full), where they would not and the header has no greater generation. What the opening did stays done.
+    /// A refusal hands the device back: those of [`Keeper::open`]; 22 (area too small), if its areas would be too small; 9
+    /// (numbers full), if they would not and no generation is left for the header. What the opening did stays done.
     pub fn upgrade(alloc: Global, disk: D) -> Result<Keeper<D>, (KeeperFault, D)>
         ensures extent { D.extent (disk_after result) ≡ D.extent disk }
         ensures faults { D.faults (disk_after result) ≡ faults_after_opening result (D.faults disk) }
@@ -40,9 +40,9 @@ impl<D: Disk> Keeper<D> {
         // leaves its header in force, or the one that makes layout 2 of it.
         ensures steps { IsOpenedAndUpgraded D.state D.faults D.honest disk result }
 
-        // Where nothing is unsynced at the start and the content stands for an image, the keeper keeps that one, only want
-        // of memory, a device fault, the last generation and small areas refuse it, and what a crash at any moment leaves
-        // stands for it, in layout 1 or 2.
+        // If nothing is unsynced at the start and the content stands for an image, the keeper keeps that image. Only lack of
+        // memory, a device fault, the last generation or small areas refuse it, and what a crash at any moment leaves stands
+        // for it, in layout 1 or 2.
         ensures same { D.honest disk → IsAllSynced (D.state disk) → (image : Image) (number : ℕ) → StandsFor (D.state disk).seen image number
             → IfOk result (λ keeper. Keeps keeper (D.state keeper.disk) image number × (keeper.base ≡ number)) }
         ensures passing { D.honest disk → IsAllSynced (D.state disk) → (image : Image) (number : ℕ) → StandsFor (D.state disk).seen image number

@@ -1,4 +1,4 @@
--- Where clients arrive, put together of what two options were given.
+-- The addresses at which clients arrive, from the values of two options.
 use Rattle.std.proofs.Common.{◌≡◌, ◌∙◌, ◌++◌, ℕ, true, false, List, [], Bor, None, Option, ap, map, subst, sym}
 use Rattle.std.specs.Prelude.{◌≢◌, All, codes}
 use Rattle.std.proofs.lemmas.List.{map-append}

@@ -100,14 +100,14 @@ pub at_ok : {T U E F : Type 0} (r : Result T E) (value : T) (P : T → U → Typ
     → IfOk made (λ whole. IsOkAnd r (λ v. P v whole))
 at_ok r value P made was says = IfOk-weaker made _ _ (λ whole said. subst (λ o. IsOkAnd o (λ v. P v whole)) (sym was) said) says
 
--- a subcommand of a row, behind those that the command has
+-- a subcommand of a row, after those that the command has
 pub subcommand_added : (above below : Command) (made : Result Command AllocError) (row : SubcommandRow) → app_of below ≡ app_of_row row → IfOk made (AddsSubcommand above below)
     → IfOk made (λ whole. app_of whole ≡ with_subcommand (app_of above) (app_of_row row).top)
 subcommand_added above below made row is says =
     let plain : (app_of below).top.is_plain ≡ true = ap (λ (a : App). a.top.is_plain) is ∙ plain_rows (new_app row.name.now) row.arguments.now in
     IfOk-weaker made _ _ (λ whole adds. adds.shape (third _ _ _ _ plain) ∙ ap (λ (a : App). with_subcommand (app_of above) a.top) is) says
 
--- and behind those before it
+-- and after those before it
 pub joins : (command made : Result Command AllocError) (so_far : App) (below : Shape) → IfOk command (λ above. app_of above ≡ so_far)
     → IfOk made (λ whole. IsOkAnd command (λ above. app_of whole ≡ with_subcommand (app_of above) below))
     → IfOk made (λ whole. app_of whole ≡ with_subcommand so_far below)

@@ -26,7 +26,7 @@ flag_rule name = record (new_rule name) { long = Some name; action = Some SetTru
 abbrev pub verbose_rule : Rule
 verbose_rule = record (flag_rule (codes "verbose")) { short = Some 118 }
 
--- options whose value says so many bytes; one that isn't free has a say in which others are given
+-- options whose value says this many bytes; one that isn't free has a say in which others are given
 abbrev pub size_rule : Rule
 size_rule = record (option_rule (codes "size")) { is_free = false }
 
@@ -87,7 +87,7 @@ served_app = with_rule (with_rule (with_rule (with_rule (new_app (codes "serve")
 abbrev pub idle_rule : Rule
 idle_rule = record (option_rule (codes "idle-timeout")) { parser = Some (parser.Unsigned 0 86400); defaults = codes "0" ∷ [] }
 
--- the same with digits behind a point, which clap takes as any text
+-- the same with digits after a point, which clap takes as any text
 abbrev pub flush_rule : Rule
 flush_rule = record (option_rule (codes "flush-interval")) { defaults = codes "1" ∷ [] }
 

@@ -33,13 +33,13 @@ pub record IsGiven (rows : List Row) (name : Text) (number : ℕ) : Type 0 where
   pub numeral : IsNumeral 10 (without_leading_plus text)
   pub is : number ≡ digits_value 10 (without_leading_plus text)
 
--- the option was given so many bytes
+-- the option was given this many bytes
 pub record IsGivenSize (rows : List Row) (name : Text) (bytes : ℕ) : Type 0 where
   pub text : Text
   pub value : first_of name rows ≡ Some text
   pub size : IsSize text bytes
 
--- the option was given so many milliseconds, in seconds
+-- the option was given this many milliseconds, in seconds
 pub record IsGivenSeconds (rows : List Row) (name : Text) (millis : ℕ) : Type 0 where
   pub text : Text
   pub value : first_of name rows ≡ Some text
@@ -62,12 +62,12 @@ pub record SaysFlag (rows : List Row) (name : Text) (flag : Bool) : Type 0 where
 abbrev pub IsLeftOut : List Row → Text → Type 0
 IsLeftOut rows name = first_of name rows ≡ None
 
--- the image has so many blocks: what --size says in bytes, or what --blocks says, where the other is left out
+-- the image has this many blocks: what --size says in bytes, or what --blocks says, where the other is left out
 abbrev pub SaysBlocks : List Row → ℕ → Type 0
 SaysBlocks rows blocks =
     (IsLeftOut rows (codes "blocks") × IsGivenSize rows (codes "size") (blocks * 4096)) ⊎ (IsLeftOut rows (codes "size") × IsGiven rows (codes "blocks") blocks)
 
--- an area of layout 1, or two of layout 2, has so many bytes: what --area says, or 64 MiB where it is left out and --blocks is too
+-- an area of layout 1, or two of layout 2, has this many bytes: what --area says, or 64 MiB where it is left out and --blocks is too
 abbrev pub SaysArea : List Row → ℕ → Type 0
 SaysArea rows area = IsGivenSize rows (codes "area") area ⊎ (IsLeftOut rows (codes "area") × IsLeftOut rows (codes "blocks") × (area ≡ 67108864))
 

@@ -4,7 +4,7 @@ use Rattle.std.specs.Str.{str_to_ascii_uppercase}
 use Rattle.std.specs.Str.Parse.{IsNumeral, digits_value, without_leading_plus}
 use Rattle.clap.specs.Words.{Text}
 
--- what stands behind the digits, in capitals, multiplies them by this: nothing, or a letter that stands for a power of 1,024
+-- what stands after the digits, in capitals, multiplies them by this: nothing, or a letter that stands for a power of 1,024
 pub data IsUnit : Text → ℕ → Type 0 where
   plain : IsUnit [] 1
   kilo : IsUnit (75 ∷ []) (2 ^ 10)
@@ -12,13 +12,13 @@ pub data IsUnit : Text → ℕ → Type 0 where
   giga : IsUnit (71 ∷ []) (2 ^ 30)
   tera : IsUnit (84 ∷ []) (2 ^ 40)
 
--- the text is these digits, with a letter of this unit behind them
+-- the text is these digits, with a letter of this unit after them
 pub record HasUnit (text digits : Text) (unit : ℕ) : Type 0 where
   pub letter : Text
   pub parts : text ≡ digits ++ letter
   pub is : IsUnit (str_to_ascii_uppercase letter) unit
 
--- the text says so many bytes
+-- the text says this many bytes
 pub record IsSize (text : Text) (bytes : ℕ) : Type 0 where
   pub digits : Text
   pub unit : ℕ

@@ -127,8 +127,8 @@ fn replaces(matches: &ArgMatches<'_>) -> bool
     }
 }
 
-// The same sizes in the layout that is asked for; None where its areas would be too small. Where none is asked for it is layout 2
-// beside --size, if its areas are large enough, and layout 1 beside --blocks, whose bytes are those of every nbdj.
+// The same sizes in the layout that is asked for; None if its areas would be too small. If no layout is asked for, it is layout 2
+// with --size, if its areas are large enough, and layout 1 with --blocks, whose bytes are those of every nbdj.
 fn laid_out(
     alloc: Global,
     matches: &ArgMatches<'_>,
@@ -304,7 +304,7 @@ fn serve<'a>(alloc: Global, matches: &ArgMatches<'a>) -> Result<Plan<'a>, Error>
     }
 }
 
-// Where the figures of a server are told, where they are.
+// The socket at which a server tells its figures, if it does.
 fn status_socket<'a>(alloc: Global, matches: &ArgMatches<'a>) -> Result<Option<&'a str>, Error>
     ensures { IfOk result (λ path. SaysStatusSocket (rows_of (found_of matches.now)) (option_map (λ text. text.now) path)) }
 {
@@ -433,7 +433,7 @@ fn loss_bytes(alloc: Global, matches: &ArgMatches<'_>) -> Result<u64, Error>
     ))
 }
 
-// Where clients arrive: at each address, and then at each socket.
+// The addresses and sockets at which clients arrive, in this order.
 fn addresses<'a>(alloc: Global, matches: &ArgMatches<'a>) -> Result<Vec<Address<'a>>, Error>
     ensures { IfOk result (λ addresses. SaysAddresses (rows_of (found_of matches.now)) addresses.items) }
 {
@@ -484,7 +484,7 @@ fn unix_addresses<'a>(
 // The bits that a mode of a file has for its owner, its group and others.
 const ALL_MODE_BITS: u32 = 0o777;
 
-// Who may connect to a Unix socket, where that is said.
+// The mode of a Unix socket's file, which says who may connect, if it is given.
 fn unix_mode(alloc: Global, matches: &ArgMatches<'_>) -> Result<Option<u32>, Error>
     ensures { IfOk result (SaysUnixMode (rows_of (found_of matches.now))) }
 {

@@ -1,7 +1,7 @@
 ghost use Rattle.std.specs.Prelude.{◌≡◌, ◌*◌, ℕ, IfSome};
 ghost use Rattle.command_line.specs.Seconds.{IsFraction, IsNumber, IsScale, IsSeconds};
 
-/// The milliseconds that a number of seconds says, where it is one and they fit 64 bits: decimal digits, which may have a point behind them
+/// The milliseconds that a number of seconds says, where it is one and they fit 64 bits: decimal digits, which may have a point after them
 /// and one to three more.
 pub fn millis_of(text: &str) -> Option<u64>
     ensures { IfSome result (IsSeconds text.now) }
@@ -22,7 +22,7 @@ fn whole(text: &str) -> Option<u64>
     }
 }
 
-// The milliseconds that digits behind the point say.
+// The milliseconds that digits after the point say.
 fn thousandths(digits: &str) -> Option<u64>
     ensures { IfSome result (IsFraction digits.now) }
 {

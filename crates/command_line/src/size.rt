@@ -1,7 +1,7 @@
 ghost use Rattle.std.specs.Prelude.{◌≡◌, ◌⊎◌, ◌∷◌, ◌++◌, ◌<◌, [], IfSome};
 ghost use Rattle.command_line.specs.Size.{HasUnit, IsSize};
 
-/// The bytes that a size says, where it is one and they fit 64 bits: decimal digits, alone or with K, M, G or T behind
+/// The bytes that a size says, where it is one and they fit 64 bits: decimal digits, alone or with K, M, G or T after
 /// them, in either case.
 pub fn bytes_of(text: &str) -> Option<u64>
     ensures { IfSome result (IsSize text.now) }

@@ -35,7 +35,7 @@ module _ (from block : ℕ) (old : Kind) where
   given_later true blocks touch before kind is = sym (given_within blocks touch)
   given_later false blocks touch before kind is = is
 
--- the map where so many ranges are laid over it
+-- the map where this many ranges are laid over it
 pub record IsLaid (from : ℕ) (ranges : List LastRange) (before after : List Kind) : Type 0 where
   pub count : length after ≡ length before
   pub each : (block : ℕ) → state_at after block ≡ kind_after (touch_on_device from (touch_at block ranges)) (state_at before block)

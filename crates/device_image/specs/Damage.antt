@@ -18,7 +18,7 @@ pub record HasBadMap (content : List ℕ) : Type 0 where
   pub in_force : HoldsHeader content (length content) header slot
   pub map : HoldsBadMap content (map_at header.geometry header.map_slot) header.geometry.blocks
 
--- One of these areas is damaged, behind the lists of those in front of it; the first of them begins with the number `next`.
+-- One of these areas is damaged, after the lists of those before it; the first of them begins with the number `next`.
 abbrev pub IsOneDamaged : List ℕ → List ℕ → Geometry → ℕ → Type 0
 IsOneDamaged [] content geometry next = ⊥
 IsOneDamaged (area ∷ areas) content geometry next =

@@ -27,16 +27,16 @@ pub record IsBase (base : Image) (content : List ℕ) (geometry : Geometry) (sta
 abbrev pub joined : List (List Change) → List Change
 joined fronts = flat_map (λ front. front) fronts
 
--- The keeper, whose device is in this state, holds this image in map and data, and over it these commands: the first of
--- them in the areas in front of the last one, each with its own, which checkpoints carry into map and data one after
--- another, and the others in the last.
+-- The keeper, whose device is in this state, holds this image in map and data, and over it these commands: `fronts` has the
+-- commands of each area before the last, which checkpoints carry into map and data one after another, and `last` those of
+-- the last area.
 pub record Holds {D : Type 0} (keeper : KeeperState D) (state : State) (base : Image) (fronts : List (List Change)) (last : List Change) : Type 0 where
   pub keeps : Keeps keeper state (apply_all last (apply_all (joined fronts) base)) (keeper.base + length (joined fronts) + length last)
   pub in_front : map changes_of keeps.areas.front ≡ fronts
   pub in_last : changes_of keeps.areas.groups ≡ last
   pub is_base : IsBase base state.seen keeper.geometry keeper.memory.map (joined fronts)
 
--- What a keeper holds that keeps this image: nothing in front of the last area where one is in use.
+-- What a keeper that keeps this image holds: if one area is in use, nothing before the last area.
 pub record HoldsAs {D : Type 0} (keeper : KeeperState D) (state : State) (image : Image) (number : ℕ) : Type 0 where
   pub base : Image
   pub fronts : List (List Change)

@@ -15,12 +15,12 @@ use Rattle.journal_format.specs.declared.touch.TouchedRange.{TouchedRange}
 pub data Phase : Type 0 where
   -- one area is in use
   One : Phase
-  -- more are in use, and so many blocks are left to copy out of the first into data
+  -- more are in use, and this many blocks are left to copy out of the first into data
   Copying : (left : ℕ) → Phase
   -- all are copied, and the map after the first area is written
   Mapped : Phase
 
--- A checkpoint of an area that stands in front of the last: what it remembers of that area, before which block all is copied that
+-- A checkpoint of an area that stands before the last: what it remembers of that area, before which block all is copied that
 -- is to be copied, how many blocks are left to copy, and, once it is written, the map after that area.
 pub record PlanState : Type 0 where
   pub first : AreaState
@@ -29,7 +29,7 @@ pub record PlanState : Type 0 where
   pub mapped : Option (List Kind)
 
 -- what a keeper remembers of its device, to find blocks and the next gate again: the header in force and its slot, the
--- states of the blocks at the base, a checkpoint of each area in use in front of the last, in the order of the ring, and the
+-- states of the blocks at the base, a checkpoint of each area in use before the last, in the order of the ring, and the
 -- area that groups are added to
 pub record Memory : Type 0 where
   pub header : Header
@@ -47,7 +47,7 @@ pub record KeeperState (D : Type 0) : Type 0 where
   pub count : ℕ
   -- the number of the last command in map and data
   pub base : ℕ
-  -- those of the last commands in the areas in use in front of the last one, of which the first becomes the base
+  -- those of the last commands in the areas in use before the last one, of which the first becomes the base
   pub turned : List ℕ
   -- how many blocks each of these areas leaves to copy; of the first, how many of them are left
   pub lefts : List ℕ
@@ -65,7 +65,7 @@ is_put None = false
 is_put (Some (Put place)) = true
 is_put (Some (Clear kind)) = false
 
--- how many of the first so many blocks have a put as their last touch
+-- how many of the first N blocks have a put as their last touch
 unfoldable pub count_puts : ℕ → List TouchedRange → ℕ
 count_puts zero touched = 0
 count_puts (suc block) touched = count_puts block touched + (if is_put (last_touch block touched) then 1 else 0)
@@ -79,11 +79,11 @@ abbrev pub phase_of : List PlanState → Phase
 phase_of [] = One
 phase_of (plan ∷ plans) = phase_in plan.left plan.mapped
 
--- the number of the last command in an area, or of the last one in front of it where its list is empty
+-- the number of the last command in an area, or of the last one before it where its list is empty
 abbrev pub last_number : AreaState → ℕ
 last_number area = (area.next + 18446744073709551615) % 18446744073709551616
 
--- these numbers of areas that stand in front of the last
+-- these numbers of areas that stand before the last
 abbrev pub turned_of : List PlanState → List ℕ
 turned_of [] = []
 turned_of (plan ∷ plans) = last_number plan.first ∷ turned_of plans
@@ -98,7 +98,7 @@ abbrev pub lefts_of : List PlanState → List ℕ
 lefts_of [] = []
 lefts_of (plan ∷ plans) = plan.left ∷ lefts_of plans
 
--- the areas in use in front of the last, in the order of the ring
+-- the areas in use before the last, in the order of the ring
 abbrev pub earlier_of : List PlanState → List AreaState
 earlier_of [] = []
 earlier_of (plan ∷ plans) = plan.first ∷ earlier_of plans
@@ -111,11 +111,11 @@ abbrev pub AreUncopied : List PlanState → Type 0
 AreUncopied [] = Unit {0}
 AreUncopied (plan ∷ plans) = IsUncopied plan × AreUncopied plans
 
--- ranges tell of each of so many blocks the same last touch
+-- ranges tell of each of this many blocks the same last touch
 abbrev pub TellSame : ℕ → List TouchedRange → List TouchedRange → Type 0
 TellSame blocks ranges others = (block : ℕ) → block < blocks → last_touch block ranges ≡ last_touch block others
 
--- What a checkpoint remembers of an area: where it stands, and the number behind its list, but not where that list ends. What its
+-- What a checkpoint remembers of an area: where it stands, and the number after its list, but not where that list ends. What its
 -- commands touched it remembers by the last touch of each block alone.
 pub record IsRemembered (remembered area : AreaState) : Type 0 where
   pub from : remembered.from ≡ area.from

@@ -45,7 +45,7 @@ abbrev pub behind_lists : ℕ → List (List StoredGroup) → ℕ
 behind_lists next [] = next
 behind_lists next (groups ∷ lists) = behind_lists (next_behind next groups) lists
 
--- The areas in use hold these lists: those in front of the last, in the order of the ring, and the last.
+-- The areas in use hold these lists: those before the last, in the order of the ring, and the last.
 pub record HoldsAreas (state : State) (header : Header) (lists : List (List StoredGroup)) (earlier : List AreaState) (area : AreaState) : Type 0 where
   pub front : List (List StoredGroup)
   pub groups : List StoredGroup
@@ -54,7 +54,7 @@ pub record HoldsAreas (state : State) (header : Header) (lists : List (List Stor
   pub placed : IsPlaced area header.geometry (last_area header)
   pub held : IsHeld area (behind_lists (next_number header.base) front) groups state
 
--- what the first of several areas in use touched, by the lists in front of the last; nothing where one area is in use
+-- what the first of several areas in use touched, by the lists before the last; nothing where one area is in use
 abbrev pub touched_first : Header → List (List StoredGroup) → List TouchedRange
 touched_first header [] = []
 touched_first header (groups ∷ lists) = touched_by_groups (area_at header.geometry header.first_area) groups
@@ -78,20 +78,20 @@ IsMapWritten (Some after) state header states front left =
     (left ≡ 0) × AreStatesAfter (touched_first header front) states after
     × HoldsMap state.seen (map_at header.geometry (other_of header.map_slot)) header.geometry.blocks after × IsAllSynced state
 
--- A checkpoint is under way: what is copied of the first area is there, and so many blocks are left.
+-- A checkpoint is under way: what is copied of the first area is there, and this many blocks are left.
 pub record IsCopying (plan : PlanState) (state : State) (header : Header) (states : List Kind) (front : List (List StoredGroup)) : Type 0 where
   pub within : plan.copied ≤ header.geometry.blocks
   pub counted : plan.left + count_puts plan.copied (touched_first header front) ≡ count_puts header.geometry.blocks (touched_first header front)
   pub are_copied : AreCopied state.seen header front plan.copied
   pub map_written : IsMapWritten plan.mapped state header states front plan.left
 
--- Where several areas are in use a checkpoint of the first is under way, and nothing of those behind it is copied.
+-- If several areas are in use, a checkpoint of the first is under way, and nothing of the areas after it is copied.
 abbrev pub IsInPhase : List PlanState → State → Header → List Kind → List (List StoredGroup) → Type 0
 IsInPhase [] state header states front = Unit {0}
 IsInPhase (plan ∷ plans) state header states front = IsCopying plan state header states front × AreUncopied plans
 
 -- The keeper, whose device is in this state, keeps this image with this last number: it works, the content stands for
--- them, and what it shows and remembers is what stands there. No place is loose. Where one area is in use nothing is
+-- them, and what it shows and remembers is what stands there. No place is loose. If one area is in use nothing is
 -- unsynced, and where more are only data that a checkpoint writes again: blocks whose last touch in the first is a put.
 pub record Keeps {D : Type 0} (keeper : KeeperState D) (state : State) (image : Image) (number : ℕ) : Type 0 where
   pub works : keeper.failed ≡ false

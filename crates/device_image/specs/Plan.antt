@@ -17,7 +17,7 @@ abbrev pub told_by : ℕ → List LastRange → List TouchedRange
 told_by from [] = []
 told_by from (range ∷ ranges) = record { first = range.first; blocks = range.blocks; touch = on_device from range.touch } ∷ told_by from ranges
 
--- an area of so many bytes from this place on, by the number behind its list and its last touches
+-- an area of this many bytes from this place on, by the number after its list and its last touches
 abbrev pub remembered : ℕ → ℕ → ℕ → ResolvedTouches → AreaState
 remembered from bytes next touches = record { from = from; bytes = bytes; blocks = touches.blocks; next = next; gate = 0; touched = told_by from touches.ranges }
 
@@ -31,7 +31,7 @@ pub record IsPlan (first : AreaState) (touches : ResolvedTouches) (copied left :
   pub counted : left + count_puts copied first.touched ≡ count_puts first.blocks first.touched
   pub done : IfSome mapped (λ states. (left ≡ 0) × (length states ≡ first.blocks))
 
--- The next blocks to copy, at most so many: they are those of puts from the first block on that is left, and follow one
+-- The next blocks to copy, at most this many: they are those of puts from the first block on that is left, and follow one
 -- another in the image and in the area.
 pub record IsNextCopy (plan : PlanState) (most : ℕ) (put : PutRange) : Type 0 where
   pub behind : plan.copied ≤ put.first

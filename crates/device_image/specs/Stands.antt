@@ -17,7 +17,7 @@ use Rattle.journal_format.specs.Spelling.{StoredGroup}
 use Rattle.regions.specs.Layout.{area_at, area_size, areas_in, behind, block_at, map_at, ring}
 use Rattle.regions.specs.Map.{HoldsMap}
 
--- an image of so many blocks of which nothing was written
+-- an image of this many blocks of which nothing was written
 abbrev pub holes : ℕ → Image
 holes count = record { blocks = count; byte = λ place. 0; kind = λ block. Hole }
 
@@ -41,7 +41,7 @@ area_of geometry area = record { from = area_at geometry area; bytes = area_size
 abbrev pub in_use : Header → List ℕ
 in_use header = ring (areas_in header.geometry) (suc header.in_front) header.first_area
 
--- those in front of the last, and the last
+-- those before the last, and the last
 abbrev pub areas_in_front : Header → List ℕ
 areas_in_front header = ring (areas_in header.geometry) header.in_front header.first_area
 
@@ -49,7 +49,7 @@ abbrev pub last_area : Header → ℕ
 last_area header = behind (areas_in header.geometry) header.in_front header.first_area
 
 -- These areas hold these lists of groups: that of the first begins with the number `next`, and each further one with the
--- number behind those in front of it.
+-- number after those before it.
 abbrev pub HoldLists : List ℕ → List ℕ → Geometry → ℕ → List (List StoredGroup) → Type 0
 HoldLists [] content geometry next [] = Unit {0}
 HoldLists [] content geometry next (groups ∷ lists) = ⊥

@@ -13,8 +13,8 @@ use latest_writes::{LastTouch, LastTouches, PutRange};
 use std::alloc::{AllocError, Global};
 use std::marker::Model;
 
-/// A checkpoint of an area in use in front of the last: what is left to copy of it, and the map after it, once that is
-/// written. Of the area it keeps where it stands, the number behind its list, and the last touches of its blocks.
+/// A checkpoint of an area in use before the last: what is left to copy of it, and the map after it, once that is
+/// written. Of the area it keeps where it stands, the number after its list, and the last touches of its blocks.
 #[derive(Drop)]
 pub struct CopyPlan {
     start: u64,
@@ -58,8 +58,8 @@ fn kind_given(touch: LastTouch) -> Kind
     }
 }
 
-/// The map after an area of an image of so many blocks, where this is the one before. It takes memory for one map and for
-/// the last touches. Refusal 0 (no memory).
+/// The map after an area of an image of `blocks` blocks, from the map before it. It takes memory for one map and for the
+/// last touches. Refusal 0 (no memory).
 pub fn map_behind(
     alloc: Global,
     area: &Area,
@@ -127,7 +127,7 @@ impl CopyPlan {
         self.start
     }
 
-    /// The number behind the area's list; 0 where no number is left.
+    /// The number after the area's list; 0 where no number is left.
     pub fn next(&self) -> u64
         ensures { result ≡ self.now.first.next }
     {
@@ -141,7 +141,7 @@ impl CopyPlan {
         self.map.is_some()
     }
 
-    /// The next blocks to copy, at most so many.
+    /// The next blocks to copy, at most `most`.
     pub fn next_copy(&self, most: u32) -> Option<PutRange>
         requires { 1 ≤ most }
         ensures some { IfSome result (IsNextCopy self.now most) }

@@ -1,4 +1,4 @@
--- What is said of a file's content: nothing, since a file device isn't honest in the sense of the model.
+-- What is said of a file's content: nothing, because a file device isn't honest in the sense of the model.
 use Rattle.std.specs.Prelude.{[]}
 use Rattle.disk_model.specs.declared.file.FileDisk.{FileDisk}
 use Rattle.disk_model.specs.Disk.{State}

@@ -44,7 +44,7 @@ pub record DiffersAt (places : ℕ → Type 0) (content left : List ℕ) : Type 
   pub bytes : (place : ℕ) → slice_index left place < 256
   pub same : (place : ℕ) → (places place → ⊥) → slice_index left place ≡ slice_index content place
 
--- what a crash may have left when so many entries stood in the history, or at some moment after that
+-- what a crash may have left when this many entries stood in the history, or at some moment after that
 abbrev pub left_by : List Entry → List ℕ → ℕ → List ℕ → Type 0
 left_by [] content moment left = DiffersAt (unsynced_by []) content left
 left_by (entry ∷ older) content moment left =

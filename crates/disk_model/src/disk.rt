@@ -17,7 +17,7 @@ pub trait Disk {
     /// How many calls have failed.
     ghost faults: { Self → ℕ };
 
-    /// That it keeps to the disk model. Where it doesn't hold, clauses on content say nothing.
+    /// That the device keeps to the disk model. If it doesn't, clauses on content say nothing.
     ghost honest: { Self → Type 0 };
 
     /// What reads give and what a crash may leave, at this moment.

@@ -13,10 +13,10 @@
 //!   bytes until a sync is good. That later sync makes stable what reads then give, which need not be what was
 //!   written, not even by a good write between the two. So a sync that is tried again doesn't take the place of the
 //!   one that failed. A failed write does the same, to its own range too. A failed read changes nothing.
-//! - **Why a gate is a byte of its own.** A gate says whether what stands behind it counts: 0x01 is open, and any other
+//! - **Why a gate is a byte of its own.** A gate says whether what stands after it counts: 0x01 is open, and any other
 //!   byte is closed. If gate and body were written at once, a crash could leave the gate open and the body torn. So the
-//!   body is written and synced behind a gate that is closed on the synced device, and then the gate's byte alone is
-//!   written. Whatever a crash makes of that byte, the body behind it is whole.
+//!   body is written and synced while the gate is closed on the synced device, and then the gate's byte alone is
+//!   written. Whatever a crash makes of that byte, the body after it is whole.
 //! - **What isn't assumed.** That a sector, or anything longer than a byte, is written whole or not at all; that writes
 //!   reach the device in their order; that a checksum tells torn bytes from whole ones.
 //! - **What a file may do that the model doesn't say.** Somebody else may write it, or cut it short. The system or the

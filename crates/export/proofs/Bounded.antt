@@ -75,7 +75,7 @@ most_asked request image = by (request.head.kind == 1) (request.head.kind == 6)
 
 module _ (request : Message) (geometry : Geometry) (kept : Mode) (old new : OrderState) (result : Served) (most : ℕ)
     (free : is_write request ≡ true → old.stopped ≡ false → sum old.bodies + 8206 + length request.bytes ≤ most) where
-  -- at most so many bytes are pending once a command was accepted
+  -- at most this many bytes are pending once a command was accepted
   abbrev Bounded : Type 0
   Bounded = old.mark < new.mark → sum new.bodies ≤ most
 

@@ -1,4 +1,4 @@
--- What was read beside the locks is what is served.
+-- Bytes that were read without locks are the ones served.
 use Rattle.std.specs.Prelude.{slice_range}
 use Rattle.std.proofs.Common.{◌≡◌, ◌≤◌, ◌∙◌, ◌+◌, ◌-◌, ◌*◌, ℕ, List, ◌++◌, length, take, drop, subst, sym, arith}
 use Rattle.std.proofs.lemmas.List.{take_all, take-append-le}
@@ -23,7 +23,7 @@ given Gives own other first end begin begins size into items same is all gives =
     (subst (λ (n : ℕ). Gives (block_at other first) (slice_range into (4096 * (first - n)) (4096 * (end - n)))) is
     (subst (λ (g : Geometry). Gives (block_at g first) (slice_range into (4096 * (first - begin)) (4096 * (end - begin)))) same gives))
 
--- the same of equal bytes behind an equal first block
+-- the same of equal bytes after an equal first block
 pub given_same : (Gives : List ℕ → Type 0) (first end begin begins : ℕ) (bytes others : List ℕ) → begin ≡ begins → bytes ≡ others
     → Gives (slice_range bytes (4096 * (first - begin)) (4096 * (end - begin))) → Gives (slice_range others (4096 * (first - begins)) (4096 * (end - begins)))
 given_same Gives first end begin begins bytes others is same gives =

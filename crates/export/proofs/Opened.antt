@@ -1,4 +1,4 @@
--- an opening behind which memory was refused
+-- an opening after which memory was refused
 use Rattle.std.specs.Prelude.{Ok, Err}
 use Rattle.std.proofs.Common.{◌≡◌, List, ℕ, sym, subst}
 use Rattle.checkpoint.specs.Opening.{IsOpening}

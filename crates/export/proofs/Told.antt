@@ -21,7 +21,7 @@ use Rattle.shared_store.specs.Answers.{ServesImage, TellsImage}
 use Rattle.export.specs.Submits.{IsAccepted, IsSubmitted}
 use Rattle.export.specs.inner.Submits.{IsServedFor, IsShownFor, IsWaitedFor, is_of_image}
 
--- The pass is shown all of the history behind what was served for it.
+-- The pass is shown all of the history after what was served for it.
 module _ (opening : ℕ) (first : Image) (Sure : Type 0 → Type 0) (request : Message) (kept : Mode) (old mid new : PassState) (history : List Change) (mark : ℕ) where
   shown_behind : (answer : Answer) → answer ≢ Done → ((errno : Errno) → answer ≢ Refused errno) → IsSubmitted opening first Sure request kept old mid answer → IsPrefix mid.history new.history
       → new ≡ record mid { history = history; accepted = mark } → IsSubmitted opening first Sure request kept old new answer
@@ -84,7 +84,7 @@ module _ (first : Image) (head : RequestHead) (history : List Change) (mark : �
   told (served.Wait number) shown is = tt
   told (served.NoRoom back) shown is = tt
 
--- Who has waited is told nothing of the image.
+-- An answer that was waited for tells nothing of the image.
 pub waited_tells : (number : ℕ) (old new : PassState) (image : Image) (head : RequestHead) (answer : Answer) → IsWaitedFor number old new answer → TellsImage image head answer
 waited_tells number old new image head answer is = by is.answered
   where

@@ -10,8 +10,8 @@ use Rattle.image_model.specs.Image.{Image, apply_all}
 use Rattle.shared_store.specs.Keepers.{HasLeft}
 use Rattle.shared_store.specs.Parts.{StandsWithin}
 
--- Whatever a crash at some moment since the opening may have left stands for the image that was found then after a beginning of this
--- history; and what one may leave now has all of it up to this number.
+-- A crash at any moment since the opening leaves the image that was found then, after a prefix of this history. A crash now leaves a
+-- prefix that has every command up to this number.
 pub record LeavesHistory (start now : State) (opening : ℕ) (image : Image) (history : List Change) (least : ℕ) : Type 0 where
   pub passed : HasLeft start now opening image history
   pub left : (content : List ℕ) → MayLeave now content → StandsWithin opening image history least content
@@ -23,7 +23,7 @@ pub record KeepsLog (trusted : Type 0) (mode : Mode) (sure : Type 0) (start now 
   pub log : IsOneLog trusted mode image history durable roster
   pub left : sure → LeavesHistory start now opening image history (opening + durable)
 
--- The content of a device stands for the image after a beginning of a history, and that has all of these commands, which are its first.
+-- The content of a device stands for the image after a prefix of a history, and that prefix begins with all of these commands.
 pub record HasStored (opening : ℕ) (image : Image) (history commands : List Change) (content : List ℕ) : Type 0 where
   pub stored : List Change
   pub begins : IsPrefix stored history

@@ -17,7 +17,7 @@ use Rattle.export_model.specs.declared.action.Action.TheVariants.{End, Serve}
 use Rattle.export_model.specs.declared.step.Mode.{Mode}
 
 -- The pass has one command more of its own, which is what the request's edit becomes over an image, under a number above all that it
--- knew before. In the history that it then knows that stands at its number, behind all that it knew before and commands of others;
+-- knew before. In the history that it then knows that stands at its number, after all that it knew before and commands of others;
 -- and it is what the edit becomes over the image of the opening after just these, as surely as what memory shows of an image.
 pub record IsAccepted (opening : ℕ) (first : Image) (Sure : Type 0 → Type 0) (request : Message) (number : ℕ) (old new : PassState) : Type 0 where
   pub above : known old < number
@@ -62,8 +62,8 @@ IsJudged (Ok Serve) request answer =
     ⊎ ((request.head.kind ≢ 0) × (request.head.kind ≢ 7) × (answer ≡ Done))
     ⊎ (((request.head.kind ≡ 0) ⊎ (request.head.kind ≡ 7)) × (image : Image) × (answer ≡ shown_by image request.head))
 
--- Who has waited for all that was accepted is answered Ok once all that its pass knew before is durable, or EIO; and its pass has no
--- command more.
+-- The end of a wait for all that was accepted: Ok once all that the pass knew before is durable, or EIO. The pass has no further
+-- command.
 pub record IsSettled (old new : PassState) (answer : Answer) : Type 0 where
   pub answered : (answer ≡ Done) ⊎ (answer ≡ Refused Io)
   pub done : answer ≡ Done → known old ≤ new.durable

@@ -1,4 +1,4 @@
-//! Room that long READs use again.
+//! Buffers that long READs use again.
 ghost use Rattle.std.specs.Prelude.{◌≡◌, IfSome, vec_len};
 
 use std::alloc::Global;

@@ -68,12 +68,12 @@ impl Progress {
 }
 
 impl<B: ExportName, D: Disk, H: ReadBeside, T: Trust> Export<B, D, H, T> {
-    /// Copies the journal into the image, step by step, before it is full or no frame is left. Each step is one hold of the
-    /// keeper's lock, and groups are stored between two.
+    /// Copies the journal into the image, step by step, before it is full or no frame is left. Each step is one critical section of
+    /// the keeper lock, and groups may be stored between two steps.
     ///
-    /// It ends once the flusher has, so it is started behind one that was, and what waits to be copied is then copied to the
-    /// end; when a call of the device has failed; and where no greater generation of a header is left, after which what
-    /// finds no room waits for good. Where memory is refused it tries again, as the flusher does.
+    /// It ends after the flusher, once what waits to be copied is copied, so it is started after a flusher was. It also ends when a
+    /// call of the device has failed, and when no greater generation of a header is left; then writes that need space block forever.
+    /// If memory runs out it tries again, as the flusher does.
     pub fn checkpointer<R: Wait + Clock, G: SyncPoints>(&self, rt: &R, points: &mut G) {
         let mut progress = Progress {
             is_copying: false,
@@ -108,7 +108,7 @@ impl<B: ExportName, D: Disk, H: ReadBeside, T: Trust> Export<B, D, H, T> {
         true
     }
 
-    // Takes a step of a checkpoint, which takes an area into use, and copies the one in front of it and those that come to wait
+    // Takes a step of a checkpoint, which takes an area into use, and copies the one before it and those that come to wait
     // meanwhile; whether there may be another step or checkpoint.
     fn checkpoint<R: Wait + Clock, G: SyncPoints>(
         &self,
@@ -135,7 +135,7 @@ impl<B: ExportName, D: Disk, H: ReadBeside, T: Trust> Export<B, D, H, T> {
         true
     }
 
-    // Waits for memory for the next step; whether that is taken. Where it waits for long no request waits for room any more.
+    // Waits for memory for the next step; whether that step is to be taken. After a long wait no request waits for room any more.
     fn wait_to_copy<R: Wait + Clock, G: SyncPoints>(
         &self,
         rt: &R,
@@ -156,7 +156,7 @@ impl<B: ExportName, D: Disk, H: ReadBeside, T: Trust> Export<B, D, H, T> {
     }
 
     // Takes the first step that there is, under the keeper's lock. Another area is taken into use where none waits to be copied, and
-    // where the last one is nearly full and one is free: no write waits for a copy then. Else the first that waits is copied.
+    // where the last one is nearly full and one is free: no write waits for a copy then. Otherwise the first that waits is copied.
     fn take_step<R: Wait>(&self, rt: &R, engine: &mut StorageEngine<B, D>) -> Hold {
         let is_first = engine.waiting() == 0;
         if is_first || engine.is_nearly_full() || self.queue.lock(rt).is_full() {
@@ -184,8 +184,8 @@ impl<B: ExportName, D: Disk, H: ReadBeside, T: Trust> Export<B, D, H, T> {
         self.copy_on(rt, engine)
     }
 
-    // Copies a part of the first area. Where that is let go so are the frames, in the same hold: the order knows of a base before there
-    // is another one.
+    // Copies a part of the first area. If the area is let go, so are the frames, in the same critical section: the order knows of a base
+    // before there is another one.
     fn copy_on<R: Wait>(&self, rt: &R, engine: &mut StorageEngine<B, D>) -> Hold {
         let step = match engine.copy_on(&self.board) {
             Ok(step) => step,

@@ -1,4 +1,4 @@
-//! What an export tells of itself while it works.
+//! The figures of an export while it works.
 ghost use Rattle.std.specs.Prelude.{◌≡◌, ◌≤◌};
 ghost use mathlib.Core.List.{IsPrefix};
 

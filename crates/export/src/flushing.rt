@@ -29,16 +29,16 @@ enum Flush<B: ExportName> {
 }
 
 impl<B: ExportName, D: Disk, H: ReadBeside, T: Trust> Export<B, D, H, T> {
-    /// Stores groups of commands where somebody waits for one, where more than 4 MiB are pending, where a command had no room,
-    /// where one was pending for as long as `store_within` says, and once all passes have left. It ends when all have left and
+    /// Stores a group of commands when a request waits for one, when more than 4 MiB are pending, when a command had no room,
+    /// when one was pending for as long as `store_within` says, and once all passes have left. It ends when all have left and
     /// nothing is pending, or when a call of the device has failed.
     ///
-    /// Where memory is refused it tries again, with longer and longer waits of up to a second. Once that has gone on for a second,
-    /// requests that wait for room are answered ENOMEM and those that wait to be stored EIO, until a group is stored. Once it has gone on
-    /// for ten and all passes have left, it ends, and what is pending is lost.
+    /// If memory runs out it tries again, with longer and longer waits of up to a second. After one second of that, requests that
+    /// wait for room get ENOMEM and those that wait to be stored get EIO, until a group is stored. After ten seconds, if all passes
+    /// have left, it ends, and the pending commands are lost.
     ///
-    /// A thread that waits alone stores the next group itself, if nothing else calls the flusher. A group is sealed a little later than
-    /// somebody waits for it, where storing one takes long and more are likely to wait for the same one.
+    /// A thread that waits alone stores the next group itself, if nothing else calls the flusher. If storing a group takes long and
+    /// more requests are likely to wait for the same one, it is sealed a little later.
     pub fn flusher<R: Wait + Clock, G: SyncPoints>(&self, rt: &R, points: &mut G) {
         self.store_groups(rt, points);
         self.queue.lock(rt).end();

@@ -1,4 +1,4 @@
-//! How the flusher waits for more to go into a group.
+//! Group commit: how the flusher waits for more requests to share a group.
 
 use std::rt::Clock;
 use std::time::{Duration, Instant};
@@ -9,13 +9,13 @@ const LEAST_APPEND: u64 = 500;
 /// A group is gathered for a quarter of the time that the last one took to be stored, and for no more milliseconds than these.
 const MOST_GATHERED: u64 = 25;
 
-/// Who waits until a number is durable, counted.
+/// The count of threads that wait until a number is durable.
 #[derive(Clone, Copy)]
 pub(crate) struct Waiters {
     // Those whose number is in a group, and those whose number isn't yet.
     sealed: usize,
     behind: usize,
-    // How many the next group may have: those who waited when the last one was stored.
+    // How many threads the next group may have: those that waited when the last one was stored.
     expected: usize,
 }
 
@@ -50,7 +50,7 @@ impl Waiters {
         self.sealed = 0;
     }
 
-    /// The group was stored: who waited for it goes, and may soon wait for the next one, as those do who wait behind it.
+    /// The group was stored: the threads that waited for it go on, and may soon wait for the next one, as the others already do.
     pub(crate) fn publish(&mut self) {
         self.expected = self.sealed.saturating_add(self.behind);
         self.sealed = 0;

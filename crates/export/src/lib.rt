@@ -1,5 +1,5 @@
-//! An export that threads share: requests are submitted by any of them, while one stores groups of commands and another
-//! copies the journal into the image.
+//! An export that threads share: any of them submits requests, while one thread stores groups of commands and another copies
+//! the journal into the image.
 #![tactic(auto)]
 
 mod beside;

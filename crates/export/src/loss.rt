@@ -1,4 +1,4 @@
-//! How much a power cut may take of what was answered: a write waits while more is pending than that.
+//! The limit on answered writes that a power cut may take: a write waits while more than that is pending.
 
 use crate::beside::ReadBeside;
 use crate::export::Export;

@@ -3,8 +3,8 @@ use std::marker::Brand;
 
 /// Which export it is: its board and image, and the sizes of that, so that what lies under its two locks is of one size.
 ///
-/// A program opens an export in a function that is generic over its name, with what it opens as a premise. Who calls that
-/// function passes `Brand`, and says in the file of its invariants that the name's board and sizes are these.
+/// A program opens an export in a function that is generic over its name, with what it opens as a premise. A caller of
+/// that function passes `Brand`, and says in the file of its invariants that the name's board and sizes are these.
 pub trait ExportName: ImageName {
     ghost use Rattle.image_model.specs.declared.geometry.Geometry.{Geometry};
 

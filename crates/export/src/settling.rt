@@ -1,4 +1,4 @@
-//! What is stored though nobody waits for it: at the end of a session, and once it has been pending for a while.
+//! Commands that are stored though no request waits for them: at the end of a session, and once they have been pending for a while.
 ghost use Rattle.std.specs.Prelude.{◌≡◌, ◌≤◌, IfSome};
 ghost use mathlib.Core.List.{IsPrefix};
 ghost use Rattle.export.specs.Submits.{IsSettled};

@@ -1,4 +1,4 @@
-//! What the threads do that store and copy, where memory is refused.
+//! What flusher and checkpointer do if memory runs out.
 
 use std::rt::Clock;
 use std::thread;

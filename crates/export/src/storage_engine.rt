@@ -1,4 +1,4 @@
-//! What lies under the keeper's lock.
+//! The state under the keeper lock.
 ghost use Rattle.std.specs.Prelude.{◌≡◌, ◌≢◌, ◌+◌, ◌<◌, ℕ, List, length};
 ghost use mathlib.Core.List.{IsPrefix};
 ghost use Rattle.disk_model.specs.Disk.{MayLeave};
@@ -74,7 +74,7 @@ pub(crate) struct StorageEngine<B: ExportName, D: Disk> {
     shared: SharedKeeper<B, D>,
     // The bytes of the last area that groups take.
     used: u64,
-    // How many areas in front of it wait to be copied, and what is next of the first of them.
+    // How many areas before it wait to be copied, and what is next of the first of them.
     waiting: u8,
     stage: Stage,
     ghost geometry: { shared.keeper.geometry ≡ B.geometry },

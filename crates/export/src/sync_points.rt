@@ -1,6 +1,6 @@
 use std::time::Duration;
 
-/// Where a thread of an export can be held.
+/// A place where a thread of an export can be stopped.
 #[derive(Clone, Copy, PartialEq, Eq)]
 pub enum Point {
     /// Before a group is appended, with the keeper's lock taken.
@@ -25,7 +25,7 @@ pub enum Point {
     Answered,
 }
 
-/// Who is told where the threads of an export are, and may hold them: a test holds one until another got on.
+/// Is told where the threads of an export are, and may stop them there: a test stops one until another has gone on.
 pub trait SyncPoints {
     /// The thread has come to this point, and goes on once this returns.
     fn reach(&mut self, at: Point);

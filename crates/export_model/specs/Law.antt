@@ -1,4 +1,4 @@
--- what schedules leave as it is, and what the log tells of the device
+-- What no schedule changes, and what the log tells of the device.
 use Rattle.std.specs.Prelude.{ℕ, ◌≡◌, ◌<◌, ◌≤◌, ◌↔◌, true, false, List, [], ◌∷◌, ◌++◌, length}
 use Rattle.disk_model.specs.Faults.{HasRisen}
 use Rattle.image_model.specs.Change.{Change}
@@ -11,7 +11,7 @@ use Rattle.export_model.specs.Checkpoint.{is_full, is_turned, last_turned, left_
 use Rattle.export_model.specs.Log.{StandsAt}
 use Rattle.export_model.specs.World.{World, Stage, areas_at}
 
--- Each area in use but the last holds something: behind the commands in map and data more were stored each time that the
+-- Each area in use but the last holds something: after the commands in map and data more were stored each time that the
 -- next one came into use, and all of these are stored.
 abbrev pub IsRising : ℕ → List ℕ → ℕ → Type 0
 IsRising base [] stored = base ≤ stored
@@ -22,14 +22,14 @@ pub record IsWithin (world : World) : Type 0 where
   pub durable : world.stage.durable ≤ world.stage.stored
   pub stored : world.stage.stored ≤ world.stage.sealed
   pub sealed : world.stage.sealed ≤ length world.stage.order
-  -- what was let go of the frames is in map and data, and what is there or stands in an area in front of the last is stored
+  -- what was let go of the frames is in map and data, and what is there or stands in an area before the last is stored
   pub cleaned : world.stage.cleaned ≤ world.stage.base
   pub rising : IsRising world.stage.base world.stage.turned world.stage.stored
   -- no more areas are in use than there are
   pub areas : length world.stage.turned < areas_at world.stage
   -- the last area is empty exactly where its first gate is the next
   pub taken : (world.stage.at ≡ 0) ↔ (world.stage.stored ≡ last_turned world.stage.base world.stage.turned)
-  -- no more is left to copy than goes into data, and nothing once the map behind it is written
+  -- no more is left to copy than goes into data, and nothing once the map after it is written
   pub left : world.stage.left ≤ left_behind world.stage.base world.stage.turned world.stage.order
   pub mapped : world.stage.mapped ≡ true → (is_turned world.stage.turned ≡ true) × (world.stage.left ≡ 0)
 

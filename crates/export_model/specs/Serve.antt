@@ -20,8 +20,8 @@ use Rattle.export_model.specs.Verdict.{verdict}
 use Rattle.export_model.specs.Shown.{shown_by}
 use Rattle.export_model.specs.World.{World, Stage, put, last_number, has_room, image_after}
 
--- What fails in a step: nothing, a growth of memory, which is refused, or a call of the device; and a device that isn't trusted
--- may show another image, while that fails. Nothing else in a step is free.
+-- The faults of a step: none, memory runs out, or a call of the device fails. A device that isn't trusted may also show another
+-- image, in a step of any of these. Nothing else in a step is left open.
 pub data Failure : Type 0 where
   Nothing : Failure
   OutOfMemory : Failure
@@ -121,8 +121,8 @@ abbrev pub status_served : Failure → World → ℕ → Message → World
 status_served OutOfMemory world connection request = ready world connection (Refused NoMemory)
 status_served failure world connection request = shown (image_shown failure world.stage) world connection request
 
--- a request that passes judgement: EIO after a device fault, a FLUSH waits for the last number where it waits, a READ and a BLOCK_STATUS show the
--- image
+-- a request that passes judgement: it gets EIO after a device fault; a FLUSH waits for the last number, unless the mode is ordered; a READ
+-- and a BLOCK_STATUS show the image
 abbrev pub passed : Failure → World → ℕ → Message → World
 passed failure world connection request =
     if world.stage.stopped then ready world connection (Refused Io)
@@ -149,7 +149,7 @@ serve failure world connection Closed = held world
 abbrev pub answered : World → ℕ → Answer → World
 answered world connection outcome = logged (moved world connection Idle) (Answered connection outcome)
 
--- answering a connection in this state: who waits is answered once its number is durable, or EIO after a device fault
+-- answering a connection in this state: one that waits is answered once its number is durable, or gets EIO after a device fault
 abbrev pub answer : World → ℕ → Connection → World
 answer world connection (Ready outcome) = answered world connection outcome
 answer world connection (Waiting number) =

@@ -26,7 +26,7 @@ unfoldable pub bytes_from : Image → ℕ → ℕ → List ℕ
 bytes_from image place zero = []
 bytes_from image place (suc count) = image.byte place ∷ bytes_from image (place + 1) count
 
--- a block of this status in front of runs: in the first of them, where that one has the same
+-- a block of this status before runs: in the first of them, where that one has the same
 unfoldable pub with_block : ℕ → List Run → List Run
 with_block given [] = record { length = 4096; status = given } ∷ []
 with_block given (run ∷ runs) =

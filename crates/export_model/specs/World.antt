@@ -129,6 +129,6 @@ areas_at stage = areas_of stage.setting.geometry.layout
 abbrev pub area_bytes : Stage → ℕ
 area_bytes stage = area_size_of stage.setting.geometry.layout stage.setting.geometry.area
 
--- whether the group in hand and the gate behind it fit the area
+-- whether the group in hand and the gate after it fit the area
 abbrev pub fits : World → Bool
 fits world = nat_le (world.stage.at + 17 + bodies_bytes (in_hand world) + 1) (area_bytes world.stage)

@@ -1,4 +1,4 @@
-//! What holds of the world of an export under every schedule.
+//! The law of an export's world under every schedule.
 
 ghost use Rattle.std.specs.Prelude.{◌≡◌, ◌≤◌, ℕ, true, List};
 ghost use Rattle.export_model.specs.Covered.{Covers};

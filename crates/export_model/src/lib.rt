@@ -1,8 +1,8 @@
 //! The world of an export: its connections, the order of write commands and what of it is stored, as a run of steps
 //! changes them; what a log of such a run must be, and what a FLUSH covers.
 //!
-//! The definitions stand in `specs/`, and `docs/DEFINITIONS.md` has a sentence on each main one. Here are the types that they
-//! share with the programs that carry such runs out, and the law of what holds of them under every schedule.
+//! The definitions stand in `specs/`; `docs/ASSURANCE.md` has the main ones. Here are the types that they share with the programs
+//! that carry such runs out, and the law of what holds of them under every schedule.
 #![tactic(auto)]
 
 mod action;

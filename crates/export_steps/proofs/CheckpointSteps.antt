@@ -341,7 +341,7 @@ module _ {D : Type 0} (state : D → State) (faults extent : D → ℕ) (honest 
         abbrev left_next : ℕ
         left_next = if is_turned world.stage.turned then world.stage.left else to_copy world.stage.base world.stage.stored world.stage.order
 
-        -- where no area stood in front of the last, what is left to copy is what that one has
+        -- where no area stood before the last, what is left to copy is what that one has
         same_left : (turned : List ℕ) → (if is_turned turned then world.stage.left else to_copy (last_turned world.stage.base turned) world.stage.stored world.stage.order)
             ≡ (if is_turned turned then world.stage.left else to_copy world.stage.base world.stage.stored world.stage.order)
         same_left [] = refl

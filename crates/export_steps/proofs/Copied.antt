@@ -23,7 +23,7 @@ use Rattle.export_model.specs.Step.{after_step}
 use Rattle.export_model.specs.World.{World}
 use Rattle.export_model.specs.Law.{IsWithin}
 
--- the world with so many blocks less to copy, and so many steps more in its log
+-- the world with this many blocks less to copy, and this many steps more in its log
 abbrev pub with_copies : World → ℕ → World
 with_copies world count = record world { stage = record world.stage { left = world.stage.left - count }; log = world.log ++ replicate count Took }
 

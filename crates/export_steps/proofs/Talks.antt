@@ -185,7 +185,7 @@ due_none durable stopped (Waiting number) left is = waits (nat_le number durable
 due_none durable stopped (Ready answer) left is = cc
 due_none durable stopped Closed left is = (refl, cc)
 
--- a connection whose state was taken out and put back, since no answer was due
+-- a connection whose state was taken out and put back, because no answer was due
 pub answered_none : (durable : ℕ) (stopped : Bool) (items : List Connection) (c : ℕ) (taken state left : Connection) → get_or items c Closed ≡ state
     → answer_due durable stopped state ≡ Err left → IsAnsweredBy durable stopped items c (set (set items c taken) c left) Held
 answered_none durable stopped items c taken state left at is =

@@ -7,7 +7,7 @@ use Rattle.image_model.specs.Change.{Change}
 use Rattle.export_steps.specs.Parts.{copies_of, fronts_of, lefts_by, numbers_of, part}
 use Rattle.export_model.specs.Checkpoint.{is_turned, last_turned, left_behind, to_copy}
 
--- the phase with these areas in use but the last, the map written or not, and so many blocks left
+-- the phase with these areas in use but the last, the map written or not, and this many blocks left
 abbrev pub phase_by : List ℕ → Bool → ℕ → Phase
 phase_by turned mapped left = if is_turned turned then (if mapped then Mapped else Copying left) else One
 
@@ -87,7 +87,7 @@ copy_phase [] mapped left blocks now = absurd now
 copy_phase (first ∷ rest) true left blocks now = absurd now
 copy_phase (first ∷ rest) false left blocks now = refl
 
--- the first area has so many fewer to copy then
+-- the first area has this many fewer to copy then
 pub copy_lefts : (order : List Change) (turned : List ℕ) (left blocks : ℕ) → fewer blocks (lefts_by order left turned) ≡ lefts_by order (left - blocks) turned
 copy_lefts order [] left blocks = refl
 copy_lefts order (first ∷ rest) left blocks = refl
@@ -125,7 +125,7 @@ finish_whole [] mapped left now = absurd now
 finish_whole (first ∷ rest) true left now = refl
 finish_whole (first ∷ rest) false left now = absurd now
 
--- an area stands in front of the last then
+-- an area stands before the last then
 pub finish_some : (turned : List ℕ) (mapped : Bool) (left : ℕ) → IsFinishTime (phase_by turned mapped left) → (first : ℕ) × (rest : List ℕ) × (turned ≡ first ∷ rest)
 finish_some [] mapped left now = absurd now
 finish_some (first ∷ rest) mapped left now = (first, rest, refl)

@@ -22,11 +22,11 @@ pub record BenchState : Type 0 where
   -- what each step did
   pub log : List Event
 
--- so many connections, none of which has sent a request
+-- this many connections, none of which has sent a request
 abbrev pub new_connections : ℕ → SessionFlags → Mode → ConnectionsState
 new_connections count given kept = record { flags = given; mode = kept; states = replicate count Idle; group = None }
 
--- a bench of so many connections
+-- a bench of this many connections
 abbrev pub new_bench : ℕ → SessionFlags → Mode → BenchState
 new_bench count given kept = record { connections = new_connections count given kept; log = [] }
 

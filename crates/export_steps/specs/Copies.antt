@@ -5,7 +5,7 @@ use Rattle.export_model.specs.Serve.{Nothing}
 use Rattle.export_model.specs.Step.{after_step}
 use Rattle.export_model.specs.World.{World}
 
--- the world after so many steps that copy a block each, in which nothing fails
+-- the world after this many steps that copy a block each, in which nothing fails
 abbrev pub copied : World → ℕ → World
 copied world zero = world
 copied world (suc count) = copied (after_step world Copy Nothing) count

@@ -24,7 +24,7 @@ use Rattle.export_model.specs.Serve.{Failure, Nothing}
 use Rattle.export_model.specs.Step.{after_step, sent}
 use Rattle.export_model.specs.World.{World, fresh, image_after}
 
--- the world in which a life begins, with a keeper that found this image and whose device counts so many faults; whether it trusts
+-- the world in which a life begins, with a keeper that found this image and whose device counts this many faults; whether it trusts
 -- that device comes first
 abbrev pub first_world : {D : Type 0} → Bool → KeeperState D → Image → ℕ → ℕ → ℕ → SessionFlags → Mode → World
 first_world trusts keeper found faults most count given kept =
@@ -41,7 +41,7 @@ first_world trusts keeper found faults most count given kept =
       trusted = trusts;
     })
 
--- What is said of a device's content has its honesty as a premise. Where the device isn't trusted, nothing is said of it,
+-- What is said of a device's content has its honesty as a premise. If the device isn't trusted, nothing is said of it,
 -- and nothing has to be known.
 abbrev pub Trusts : Bool → Type 0 → Type 0
 Trusts true honest = honest
@@ -78,7 +78,7 @@ pub record IsDurable (world next : World) (before after : State) : Type 0 where
   pub at_end : (content : List ℕ) → MayLeave after content → KeepsCovered next.stage.order next content
 
 -- The steps that are done lead from one world to the next, of which the parts are; the log of the bench is legal, and what
--- it covers is not lost where the device is honest. Where the world trusts the device, each answer to a READ and a BLOCK_STATUS
+-- it covers is not lost where the device is honest. If the world trusts the device, each answer to a READ and a BLOCK_STATUS
 -- shows the image after some first commands, and each command is what its request's edit becomes over the image after those before it.
 pub record IsRehearsed {D : Type 0} (world next : World) (done : List Step) (order : OrderState) (keeper : KeeperState D) (failures : ℕ) (bench : BenchState)
     (honest : Type 0) (before after : State) : Type 0 where

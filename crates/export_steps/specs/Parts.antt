@@ -1,4 +1,4 @@
--- when the parts of an export are of a world
+-- The relation between a world and the parts of an export: connections, order and keeper.
 use Rattle.std.specs.Prelude.{ℕ, ◌≡◌, ◌+◌, ◌-◌, ◌≤◌, ◌<◌, true, false, if◌then◌else◌, Option, Some, None, IfSome, List, [], ◌∷◌, ◌++◌, length, map, drop, take, slice_index_or}
 use Rattle.device_image.specs.Holds.{Holds}
 use Rattle.device_image.specs.Keeper.{KeeperState, Phase, One, Copying, Mapped}
@@ -26,15 +26,15 @@ pub record StandsAfter (order : List Change) (image : Image) (opening least : �
   pub within : count ≤ length order
   pub stands : StandsFor content (image_after order count image) (opening + count)
 
--- the commands of an order behind the first so many, up to another number of them
+-- the commands of an order after the first N, up to another number of them
 abbrev pub part : List Change → ℕ → ℕ → List Change
 part order from until = take (until - from) (drop from order)
 
--- how many commands stand in front of the last area in use
+-- how many commands stand before the last area in use
 abbrev pub turned_at : Stage → ℕ
 turned_at stage = last_turned stage.base stage.turned
 
--- the commands in each of the areas in front of the last
+-- the commands in each of the areas before the last
 abbrev pub fronts_of : List Change → ℕ → List ℕ → List (List Change)
 fronts_of order base [] = []
 fronts_of order base (first ∷ rest) = part order base first ∷ fronts_of order first rest
@@ -47,7 +47,7 @@ abbrev pub copies_of : List Change → ℕ → List ℕ → List ℕ
 copies_of order base [] = []
 copies_of order base (first ∷ rest) = to_copy base first order ∷ copies_of order first rest
 
--- how many of them each leaves to copy, where the first leaves so many, and nothing of the others is copied
+-- how many of them each leaves to copy, where the first leaves this many, and nothing of the others is copied
 abbrev pub lefts_by : List Change → ℕ → List ℕ → List ℕ
 lefts_by order left [] = []
 lefts_by order left (first ∷ rest) = left ∷ copies_of order first rest
@@ -92,7 +92,7 @@ pub record IsOrderOf (stage : Stage) (order : OrderState) (group : Option Number
   -- the last number has 64 bits
   pub fits : order.mark < 18446744073709551616
 
--- the keeper, whose device counts so many faults, is a world's
+-- the keeper, whose device counts this many faults, is a world's
 pub record IsKeeperOf {D : Type 0} (stage : Stage) (keeper : KeeperState D) (failures : ℕ) : Type 0 where
   pub geometry : keeper.geometry ≡ stage.setting.geometry
   pub count : keeper.count ≡ stage.setting.opening + stage.stored
@@ -122,7 +122,7 @@ pub record IsDiskOf {D : Type 0} (stage : Stage) (keeper : KeeperState D) (state
 abbrev pub Shows : Stage → OrderState → Type 0
 Shows stage order = ShowsImage (image_after stage.order (length stage.order) stage.setting.image) order.cache
 
--- Order, keeper and connections are of a world that a schedule leads to. Where the keeper's device is honest, it is of
+-- Order, keeper and connections are of a world that a schedule leads to. If the keeper's device is honest, it is of
 -- that world too, with the world's opening image, and so is what the order knows of it. A device that the world trusts is.
 pub record IsExportOf {D : Type 0} (world : World) (order : OrderState) (keeper : KeeperState D) (failures : ℕ) (connections : ConnectionsState)
     (honest : Type 0) (state : State) : Type 0 where

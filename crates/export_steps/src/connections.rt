@@ -13,7 +13,7 @@ use std::marker::Model;
 
 /// The connections of an export, each with a pass of its board, what they agreed on, and the group in hand.
 ///
-/// They can't be let go, since a group may be in hand: they are spent by `close`.
+/// They can't be let go, because a group may be in hand: they are spent by `close`.
 pub struct Connections<B: BoardName> {
     pub(crate) flags: SessionFlags,
     pub(crate) mode: Mode,
@@ -38,7 +38,7 @@ impl<B: BoardName> Model for Connections<B> {
     ghost invariant = { λ connections. vec_len connections.passes ≡ vec_len connections.states };
 }
 
-// So many connections that have no request open.
+// This many connections that have no request open.
 fn idle(alloc: Global, count: usize) -> Result<Vec<Connection>, AllocError>
     ensures states { IfOk result (λ states. states.items ≡ replicate count Connection.Idle) }
     ensures size { IfOk result (λ states. vec_len states ≡ count) }

@@ -72,7 +72,7 @@ pub fn take_step<B: BoardName, D: Disk>(
 /// Copies the next blocks of the first of several areas into data, at most `most`, that follow one another in both, in one
 /// read and one write of the device.
 ///
-/// Where it answers how many, these are as many steps `Copy`, in none of which anything fails; else it is one step `Copy`,
+/// If it answers how many, these are as many steps `Copy`, in none of which anything fails; otherwise it is one step `Copy`,
 /// whose event it gives.
 pub fn copy_some<B: BoardName, D: Disk>(
     most: u32,

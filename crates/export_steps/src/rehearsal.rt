@@ -21,7 +21,7 @@ use std::marker::Model;
 
 /// The connections of a rehearsal, and the log of what its steps did.
 ///
-/// A bench can't be let go, since a group may be in hand: it is spent by `close`.
+/// A bench can't be let go, because a group may be in hand: it is spent by `close`.
 pub struct Bench<B: BoardName> {
     alloc: Global,
     connections: Connections<B>,

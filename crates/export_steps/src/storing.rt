@@ -48,7 +48,7 @@ pub(crate) fn seal<B: BoardName>(hand: &mut Option<Group>, order: &mut Order<B>)
     }
 }
 
-// Stores the group in hand. Where memory is refused it stays in hand; where it doesn't fit, and where the device fails
+// Stores the group in hand. If memory is refused it stays in hand; where it doesn't fit, and where the device fails
 // or has failed, it is pending again.
 pub(crate) fn append<B: BoardName, D: Disk>(
     hand: &mut Option<Group>,

@@ -31,7 +31,7 @@ struct Done {
     read: bool,
 }
 
-// Writes so many blocks from one on.
+// Writes this many blocks from one on.
 fn write_all<B: ExportName, D: Disk, R: Wait + Clock>(
     rt: &R,
     alloc: Global,
@@ -49,7 +49,7 @@ fn write_all<B: ExportName, D: Disk, R: Wait + Clock>(
     written
 }
 
-// Whether so many blocks from the first one on read back.
+// Whether this many blocks from the first one on read back.
 fn read_all<B: ExportName, D: Disk, R: Wait + Clock>(
     rt: &R,
     alloc: Global,
@@ -93,7 +93,7 @@ fn two_passes<B: ExportName, D: Disk, R: Wait + Clock>(
     }
 }
 
-// One pass leaves, and the other goes on. It writes 20 blocks with a FLUSH behind each, so that a group has one command, and then
+// One pass leaves, and the other goes on. It writes 20 blocks with a FLUSH after each, so that a group has one command, and then
 // more than there are frames, so that some wait for room. It reads all of them twice, the first ones from the device.
 fn one_pass_alone<B: ExportName, D: Disk, R: Wait + Clock>(
     rt: &R,
@@ -125,7 +125,7 @@ fn one_pass_alone<B: ExportName, D: Disk, R: Wait + Clock>(
     }
 }
 
-// The number that a device opens with again, and whether its image has the bytes of the first so many blocks.
+// The number that a device opens with again, and whether its image has the bytes of the first N blocks.
 fn reopened<D: Disk + Drop>(alloc: Global, disk: D, count: u64) -> Option<(u64, bool)> {
     let mut keeper = Keeper::open(alloc, disk).ok()?;
     for block in 0..count {

@@ -1,4 +1,4 @@
-//! Tests of an order and of an export that threads share. They stand beside these crates, since a crate with tests is proved twice.
+//! Tests of an order and of an export that threads share. They stand beside these crates, because a crate with tests is proved twice.
 #![tactic(auto)]
 
 #[cfg(test)]

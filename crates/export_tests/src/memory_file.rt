@@ -57,7 +57,7 @@ impl<'a, R: Wait> OpenFile for MemoryFile<'a, R> {
     }
 }
 
-/// Where the reads of a handle are held. Each field is the number of a turn, from 1 on.
+/// Stops the reads of a handle. Each field is the number of a turn, from 1 on.
 #[derive(Drop)]
 pub struct Latch {
     // That in which the next read is to be held; 0 for none.

@@ -78,7 +78,7 @@ fn whole_blocks(bytes: &[u8]) -> Option<u64>
     Some(blocks)
 }
 
-// Whether an image of so many blocks takes the command, which is a put.
+// Whether an image of this many blocks takes the command, which is a put.
 fn is_put_inside(image: u64, command: &Command) -> bool
     ensures { result ≡ true → IsCommand image command.now }
 {

@@ -11,7 +11,7 @@ use Rattle.frame_pool.specs.Lists.{ListsState, HoldEach, times}
 use Rattle.frame_pool.specs.Numbers.{AreNumbered, kept_at, one_if_kept, pool_of}
 use Rattle.frame_pool.specs.Ring.{IsPath, AreLinks, AreLinked, ring_of}
 
--- the numbers from one on, with the next one behind them
+-- the numbers from one on, with the next one after them
 range_last : (from count : ℕ) (rest : List ℕ) → range_with_len from count ++ (from + count) ∷ rest ≡ from ∷ (range_with_len (from + 1) count ++ rest)
 range_last from zero rest = ap (λ (v : ℕ). v ∷ rest) (omega arith)
 range_last from (suc count) rest =

@@ -21,7 +21,7 @@ AreLinks-set nodes links at node below are = record {
 pub link_inside : (nodes : ℕ) (links : List ℕ) (node : ℕ) → node < nodes → AreLinks nodes links → get_or links node 0 < nodes
 link_inside nodes links node below are = are.inside node 0 (rw are.size below)
 
--- the path behind a node on it
+-- the path after a node on it
 path_behind : (next previous : List ℕ) (from node : ℕ) (nodes behind : List ℕ) → IsPath next previous from (nodes ++ node ∷ behind) → IsPath next previous node behind
 path_behind next previous from node [] behind path = path.2
 path_behind next previous from node (first ∷ nodes) behind path = path_behind next previous first node nodes behind path.2
@@ -60,7 +60,7 @@ ring-split : (frames : ℕ) (lists : ListsState)
     → ring_of frames lists ≡ (lists.free ++ frames ∷ (lists.clean ++ (frames + 1) ∷ lists.dirty)) ++ (frames + 2) ∷ []
 ring-split frames lists = simp append_assoc
 
--- the nodes before a list's end, and those behind it
+-- the nodes before a list's end, and those after it
 abbrev before_end : ℕ → ListsState → Place → List ℕ
 before_end frames lists Free = lists.free
 before_end frames lists Clean = lists.free ++ frames ∷ lists.clean
@@ -201,7 +201,7 @@ linked_shown frames next previous lists linked =
     let P : ListsState → Type 0 = λ shown. AreLinked frames next previous shown in
     subst P (sym (lists_linked frames next previous lists linked)) linked
 
--- the first frame of a list: the node behind its start, unless that is its end
+-- the first frame of a list: the node after its start, unless that is its end
 pub first_linked : (next previous : List ℕ) (from end : ℕ) (nodes behind : List ℕ) → IsPath next previous from (nodes ++ end ∷ behind) → times end nodes ≡ 0
     → (get_or next from 0 ≡ end → None ≡ slice_get nodes 0) × (get_or next from 0 ≢ end → Some (get_or next from 0) ≡ slice_get nodes 0)
 first_linked next previous from end [] behind path none = (λ _. refl, λ ne. absurd (ne path.0))

@@ -11,7 +11,7 @@ use Rattle.frame_pool.specs.laws.Times.{times-append, times-without_same, times-
 abbrev pub times_in : ℕ → ListsState → ℕ
 times_in frame lists = times frame lists.free + times frame lists.clean + times frame lists.dirty
 
--- a list without the frame, and the frame behind it
+-- a list without the frame, and the frame after it
 pub times-last_same : (frame : ℕ) (xs : List ℕ) → times frame (without frame xs ++ frame ∷ []) ≡ 1
 times-last_same frame xs = omega (arith, times-append frame (without frame xs) (frame ∷ []), times-without_same frame xs, times_head frame [])
 

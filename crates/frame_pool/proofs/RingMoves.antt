@@ -29,7 +29,7 @@ next-previous next previous from (node ∷ nodes) x path some =
       | inr p ↦ next-previous next previous node nodes x path.2 (omega (arith, times_other x node nodes p.1, some))
     ]
 
--- The node behind one on the path, but for its last, leads back to it.
+-- The node after one on the path, but for its last, leads back to it.
 pub previous-next : (next previous : List ℕ) (from : ℕ) (nodes : List ℕ) (last x : ℕ)
     → IsPath next previous from (nodes ++ last ∷ []) → 1 ≤ times x nodes → get_or previous (get_or next x 0) 0 ≡ x
 previous-next next previous from [] last x path some = absurd (omega arith)
@@ -44,7 +44,7 @@ previous-next next previous from (node ∷ nodes) last x path some =
     back next previous from [] last path = rw path.0 path.1
     back next previous from (node ∷ nodes) last path = rw path.0 path.1
 
--- A link between other nodes stays where `x` is taken out: the node before it is linked to the one behind it.
+-- A link between other nodes stays where `x` is taken out: the node before it is linked to the one after it.
 link-unlinked : (next previous : List ℕ) (x a b : ℕ)
     → get_or next (get_or previous x 0) 0 ≡ x → get_or previous (get_or next x 0) 0 ≡ x
     → a ≢ x → b ≢ x → get_or next a 0 ≡ b → get_or previous b 0 ≡ a
@@ -54,7 +54,7 @@ link-unlinked next previous x a b np pn ax bx ahead back = (
   get_or-set_other previous (get_or next x 0) b (get_or previous x 0) 0 (λ e. ax (sym back ∙ ap (λ (v : ℕ). get_or previous v 0) e ∙ pn)) ∙ back,
 )
 
--- the path behind `x`, from the node before it
+-- the path after `x`, from the node before it
 path_joined : (next previous : List ℕ) (x from : ℕ) (nodes : List ℕ)
     → get_or previous x 0 < length next → get_or next x 0 < length previous
     → get_or next (get_or previous x 0) 0 ≡ x → get_or previous (get_or next x 0) 0 ≡ x

@@ -4,7 +4,7 @@ use Rattle.frame_pool.specs.declared.nodes.Node.{Node}
 use Rattle.frame_pool.specs.Cells.{IsWritten}
 use Rattle.frame_pool.specs.Numbers.{option_of}
 
--- for each node the one behind it, the one before it, and its number or none
+-- for each node the one after it, the one before it, and its number or none
 pub record NodesState : Type 0 where
   pub next : List ℕ
   pub previous : List ℕ

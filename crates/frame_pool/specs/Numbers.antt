@@ -25,7 +25,7 @@ numbered numbers frames = map (λ frame. record { frame = frame; number = number
 abbrev pub pool_of : ListsState → List (Option ℕ) → List (List ℕ) → PoolState
 pool_of lists numbers bytes = record { free = lists.free; clean = lists.clean; dirty = numbered numbers lists.dirty; bytes = bytes }
 
--- So many frames are in the lists, exactly the dirty ones have a number, and there are so many of these.
+-- This many frames are in the lists, exactly the dirty ones have a number, and there are this many of these.
 pub record AreNumbered (frames : ℕ) (lists : ListsState) (numbers : List (Option ℕ)) (dirty : ℕ) : Type 0 where
   pub few : frames + 3 < 2 ^ 32
   pub each : HoldEach lists

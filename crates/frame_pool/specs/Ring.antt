@@ -1,4 +1,4 @@
--- lists by links: one ring through all frames, with a node behind the last frame of each list
+-- lists by links: one ring through all frames, with a node after the last frame of each list
 use Rattle.std.specs.Prelude.{ℕ, zero, suc, ◌≡◌, ◌+◌, ◌<◌, ◌^◌, ◌==◌, if◌then◌else◌, List, [], ◌∷◌, ◌++◌, length, slice_index, All}
 use Rattle.frame_pool.specs.declared.place.Place.{Place}
 use Rattle.frame_pool.specs.declared.place.Place.TheVariants.{Free, Clean, Dirty}
@@ -10,7 +10,7 @@ IsPath next previous from [] = Unit {0}
 IsPath next previous from (node ∷ nodes) =
     (slice_index next from ≡ node) × (slice_index previous node ≡ from) × IsPath next previous node nodes
 
--- the node behind the last frame of a list, and that before its first one
+-- the node after the last frame of a list, and that before its first one
 abbrev pub end_of : ℕ → Place → ℕ
 end_of frames Free = frames
 end_of frames Clean = frames + 1
@@ -26,7 +26,7 @@ abbrev pub ring_of : ℕ → ListsState → List ℕ
 ring_of frames lists =
     lists.free ++ frames ∷ (lists.clean ++ (frames + 1) ∷ (lists.dirty ++ (frames + 2) ∷ []))
 
--- the nodes from one on to the one before the end, at most so many
+-- the nodes from one on to the one before the end, at most this many
 abbrev pub walk : List ℕ → ℕ → ℕ → ℕ → List ℕ
 walk next end zero node = []
 walk next end (suc most) node = if node == end then [] else node ∷ walk next end most (slice_index next node)
@@ -38,7 +38,7 @@ linked frames next place = walk next (end_of frames place) frames (slice_index n
 abbrev pub lists_of : ℕ → List ℕ → ListsState
 lists_of frames next = record { free = linked frames next Free; clean = linked frames next Clean; dirty = linked frames next Dirty }
 
--- each link leads to a node of so many
+-- each link leads to a node of N
 pub record AreLinks (nodes : ℕ) (links : List ℕ) : Type 0 where
   pub size : length links ≡ nodes
   pub inside : All (λ node. node < nodes) links

@@ -11,7 +11,7 @@ use std::alloc::{AllocError, Allocator};
 use std::marker::{Model, PhantomData, Send, Sync};
 use std::mem::{align_of, size_of};
 
-// Where the cells begin. It owns nothing.
+// The place where the cells begin. It owns nothing.
 pub struct Base<T> {
     ptr: *mut T,
 }
@@ -49,7 +49,7 @@ unsafe impl<T: Send> Send for Cells<T> {}
 
 unsafe impl<T: Sync> Sync for Cells<T> {}
 
-// The right to free so many cells, once. It takes no bytes, and neither it nor the cells can be forgotten.
+// The right to free this many cells, once. It takes no bytes, and neither it nor the cells can be forgotten.
 pub struct Deed<T, A: Allocator> {
     mark: PhantomData<*const (T, A)>,
     ghost at: { Ptr },
@@ -68,7 +68,7 @@ unsafe impl<T, A: Allocator + Send> Send for Deed<T, A> {}
 // A `&` to it holds nothing.
 unsafe impl<T, A: Allocator> Sync for Deed<T, A> {}
 
-// So many cells that were never written, whose memory isn't touched.
+// This many cells that were never written, whose memory isn't touched.
 pub fn allocate<T, A: Allocator>(
     alloc: &A,
     len: usize,

@@ -28,7 +28,7 @@ impl Model for Frames {
 }
 
 impl Frames {
-    // So many frames, none of which has bytes.
+    // This many frames, none of which has bytes.
     pub fn new(alloc: Global, frames: u32) -> Result<Frames, AllocError>
         ensures { IfOk result (λ made. made ≡ replicate frames None) }
     {

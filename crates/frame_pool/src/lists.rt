@@ -11,7 +11,7 @@ use crate::place::Place;
 use std::alloc::{AllocError, Global};
 use std::marker::Model;
 
-// The frames in three lists, by links: one ring goes through all frames, with a node behind the last frame of each
+// The frames in three lists, by links: one ring goes through all frames, with a node after the last frame of each
 // list, so that no list is ever empty and a frame has a node on either side. A frame's node also has its number.
 #[derive(Drop)]
 pub struct FrameLists {
@@ -31,7 +31,7 @@ impl Model for FrameLists {
     ghost invariant = { λ lists. AreLinked lists.frames lists.nodes.next lists.nodes.previous (lists_of lists.frames lists.nodes.next) };
 }
 
-// The node behind a list's last frame.
+// The node after a list's last frame.
 fn end(frames: u32, place: Place) -> u32
     requires { frames + 3 < 2 ^ 32 }
     ensures { result ≡ end_of frames place }
@@ -56,7 +56,7 @@ fn start(frames: u32, place: Place) -> u32
 }
 
 impl FrameLists {
-    // So many frames, which are free, in ascending order.
+    // This many frames, which are free, in ascending order.
     pub fn new(alloc: Global, frames: u32) -> Result<FrameLists, AllocError>
         requires { frames + 3 < 2 ^ 31 }
         ensures { IfOk result (λ lists. lists ≡ record {

@@ -34,7 +34,7 @@ impl Model for Nodes {
 }
 
 impl Nodes {
-    // So many nodes in a ring in ascending order, with no numbers.
+    // This many nodes in a ring in ascending order, with no numbers.
     pub fn ring(alloc: Global, count: u32) -> Result<Nodes, AllocError>
         requires some { 0 < count }
         requires few { count < 2 ^ 31 }
@@ -60,7 +60,7 @@ impl Nodes {
         Ok(Nodes { region })
     }
 
-    // The node behind one.
+    // The node after one.
     pub fn next(&self, node: u32) -> u32
         requires { node < length self.now.next }
         ensures { result ≡ slice_index self.now.next node }
@@ -87,7 +87,7 @@ impl Nodes {
         }
     }
 
-    // Links a node to the one behind it.
+    // Links a node to the one after it.
     pub fn set_next(&mut self, node: u32, next: u32)
         requires { node < length self.old.next }
         ensures { self.new ≡ with_next node next self.old }

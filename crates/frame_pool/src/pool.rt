@@ -55,7 +55,7 @@ fn move_to(lists: &mut FrameLists, count: &mut u32, frame: u32, place: Place, nu
 }
 
 impl FramePool {
-    /// So many frames, which are free, in ascending order, and hold zero bytes. Refusal 0 (no memory).
+    /// `frames` frames, all of them free, in ascending order, with zero bytes. Refusal 0 (no memory).
     pub fn new(alloc: Global, frames: u32) -> Result<FramePool, AllocError>
         requires { frames + 3 < 2 ^ 31 }
         ensures made { IfOk result (λ pool. pool ≡ record {

@@ -28,7 +28,7 @@ impl<T: Copy> Model for Region<T> {
 }
 
 impl<T: Copy> Region<T> {
-    // So many cells, whose memory isn't touched.
+    // This many cells, whose memory isn't touched.
     pub fn new(alloc: Global, len: usize) -> Result<Region<T>, AllocError>
         requires { FitsInBlock T.row len }
         ensures { IfOk result (λ region. region ≡ replicate len None) }

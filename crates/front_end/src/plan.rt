@@ -4,12 +4,12 @@ use crate::pipe_options::PipeOptions;
 use crate::refusal::Refusal;
 use image_model::Geometry;
 
-/// Where clients arrive.
+/// An address at which clients arrive.
 #[derive(Clone, Copy)]
 pub enum Address<'a> {
     /// An IP address or a host's name, and a port; with port 0 the system picks one.
     Tcp(&'a str),
-    /// The path of a Unix socket, which is made; and who may read and write it, as the bits of its file's mode, where that is said.
+    /// The path of a Unix socket, which is made; and its file's mode, if it is given.
     Unix { path: &'a str, mode: Option<u32> },
 }
 
@@ -44,7 +44,7 @@ pub const MOST_NAME_BYTES: usize = 4_075;
 #[derive(Clone, Copy)]
 pub struct ServedName<'a> {
     pub text: &'a str,
-    /// Whether a hyphen and a number that differs at each start stand behind it.
+    /// Whether a hyphen and a number that differs at each start stand after it.
     pub is_fresh: bool,
 }
 

@@ -32,7 +32,7 @@ pub enum Refusal {
 }
 
 impl Refusal {
-    /// The number that is printed behind the text.
+    /// The number that is printed after the text.
     pub fn number(self) -> u8
         ensures { result ≡ number_of self }
     {

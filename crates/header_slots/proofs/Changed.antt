@@ -199,7 +199,7 @@ module _ {extent : ℕ} (slot : Side) (old : State) (sound : IsSound extent old)
               (λ within. omega (arith, within)))));
         }
 
-    -- while the new header is written behind the closed gate
+    -- while the new header is written after the closed gate
     pub writing_either : (mid : State) → IsSound extent mid → IsGateClosed old (other_of slot) mid → (content : List ℕ)
         → MayLeaveTorn mid (slot_at (other_of slot) + 1) 39 content → LeavesEither old size current slot header content
     writing_either mid mid_sound closed content torn =
@@ -213,7 +213,7 @@ module _ {extent : ℕ} (slot : Side) (old : State) (sound : IsSound extent old)
               (λ within. omega (arith, within))) ∙ other_open))));
         }
 
-    -- the new header stands behind the closed gate, and all is stable
+    -- the new header stands after the closed gate, and all is stable
     module _ (mid after : State) (mid_sound : IsSound extent mid) (after_sound : IsSound extent after) (closed : IsGateClosed old (other_of slot) mid)
         (body : IsBodyStored mid (other_of slot) header after) where
       carries_body : Carries slot old after

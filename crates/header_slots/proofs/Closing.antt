@@ -1,4 +1,4 @@
--- a gate that is closed behind a read
+-- a gate that is closed after a read
 use Rattle.std.proofs.Common.{ℕ, inr, List, [], ◌∷◌, sym, ◌∙◌, arith}
 use Rattle.disk_model.specs.Disk.{State, IsKept, IsSound, IsStored, IsSyncedIn, MayLeaveTorn}
 use Rattle.disk_model.specs.laws.Contents.{stored_first}
@@ -6,7 +6,7 @@ use Rattle.image_model.specs.declared.side.Side.{Side}
 use Rattle.header_slots.specs.Slots.{slot_at, IsOpen}
 use Rattle.header_slots.specs.Change.{IsGateClosed, LeavesClosing}
 
--- a gate that was closed behind a read, and is stable
+-- a gate that was closed after a read, and is stable
 pub gate_closed : {extent : ℕ} (old mid after : State) → IsSound extent old → IsSound extent after → (slot : Side) → IsSyncedIn old (slot_at slot) 1 → IsKept old mid
     → IsStored mid (slot_at slot) (0 ∷ []) after → IsGateClosed old slot after
 gate_closed old mid after sound after_sound slot synced kept stored = record {

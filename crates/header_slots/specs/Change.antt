@@ -40,7 +40,7 @@ abbrev pub LeavesClosing : State → Side → List ℕ → Type 0
 LeavesClosing before slot content =
     MayLeave before content ⊎ (IsOpen before.seen slot × MayLeaveTorn before (slot_at slot) 1 content)
 
--- The 39 bytes of this header stand behind the gate of a slot, stable; nothing else was written.
+-- The 39 bytes of this header stand after the gate of a slot, stable; nothing else was written.
 pub record IsBodyStored (before : State) (slot : Side) (header : Header) (after : State) : Type 0 where
   pub bytes : List ℕ
   pub size : length bytes ≡ 39

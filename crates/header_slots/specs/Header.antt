@@ -12,12 +12,12 @@ abbrev pub magic_of : Layout → ℕ
 magic_of One = 0x4e42444a524e4c31
 magic_of Two = 0x4e42444a524e4c32
 
--- the byte that tells how many areas are in use in front of the last
+-- the byte that tells how many areas are in use before the last
 abbrev pub mode_of : Layout → ℕ → ℕ
 mode_of One in_front = in_front
 mode_of Two in_front = in_front + 1
 
--- The 39 bytes from this place on, behind a gate, spell this header.
+-- The 39 bytes from this place on, after a gate, spell this header.
 pub record SpellsAt (content : List ℕ) (place : ℕ) (header : Header) : Type 0 where
   pub begins : number_at place 8 content ≡ magic_of header.geometry.layout
   pub generation : number_at (place + 8) 8 content ≡ header.generation
@@ -28,7 +28,7 @@ pub record SpellsAt (content : List ℕ) (place : ℕ) (header : Header) : Type 
   pub map_slot : slice_index content (place + 30) ≡ index_of header.map_slot
   pub base : number_at (place + 31) 8 content ≡ header.base
 
--- what stands behind a slot's gate, up to the slot's end: the header, and zeroes
+-- what stands after a slot's gate, up to the slot's end: the header, and zeroes
 pub record IsBodyOf (header : Header) (bytes : List ℕ) : Type 0 where
   pub size : length bytes ≡ 4095
   pub spelled : SpellsAt bytes 0 header

@@ -54,7 +54,7 @@ pub data IsBad (content : List ℕ) (size : ℕ) : Type 0 where
 abbrev pub HoldsBad : List ℕ → ℕ → Type 0
 HoldsBad content size = (8192 ≤ size) × IsBad content size
 
--- after a good write of what stands behind a slot's gate
+-- after a good write of what stands after a slot's gate
 pub record IsBodyWritten (before : State) (slot : Side) (header : Header) (after : State) : Type 0 where
   pub bytes : List ℕ
   pub body : IsBodyOf header bytes

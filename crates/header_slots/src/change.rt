@@ -100,7 +100,7 @@ pub fn close_other<D: Disk>(disk: &mut D, other: Side) -> Result<(), DeviceFault
     write_synced(disk, slot_from(other), &[CLOSED])
 }
 
-/// Writes a header behind a slot's gate, which isn't written, and makes it stable. Refusal 1 (device fault).
+/// Writes a header after a slot's gate, which isn't written, and makes it stable. Refusal 1 (device fault).
 pub fn write_body<D: Disk>(disk: &mut D, slot: Side, header: &Header) -> Result<(), DeviceFault>
     requires { 8192 ≤ D.extent disk.old }
     ensures extent { D.extent disk.new ≡ D.extent disk.old }
@@ -114,7 +114,7 @@ pub fn write_body<D: Disk>(disk: &mut D, slot: Side, header: &Header) -> Result<
     write_synced(disk, slot_from(slot) + 1, &header.encode())
 }
 
-/// Opens the gate of the slot that isn't in force, and makes that stable; what stands behind it has to be stable.
+/// Opens the gate of the slot that isn't in force, and makes that stable; what stands after it has to be stable.
 /// Refusal 1 (device fault).
 pub fn open_other<D: Disk>(disk: &mut D, other: Side) -> Result<(), DeviceFault>
     requires { 8192 ≤ D.extent disk.old }
@@ -132,7 +132,7 @@ pub fn open_other<D: Disk>(disk: &mut D, other: Side) -> Result<(), DeviceFault>
 /// Puts a header in the place of the one in force, which stands in this slot, as the next one.
 ///
 /// It goes to the other slot: its gate is closed, the header is written, its gate is opened, each made stable before the
-/// next. Where nothing in the two slots is unsynced, a crash at any moment leaves the old header or the new one in force.
+/// next. If nothing in the two slots is unsynced, a crash at any moment leaves the old header or the new one in force.
 /// Refusal 1 (device fault).
 pub fn change_header<D: Disk>(disk: &mut D, slot: Side, header: &Header) -> Result<(), DeviceFault>
     requires { 8192 ≤ D.extent disk.old }

@@ -11,9 +11,9 @@ pub struct Header {
     /// Of two headers the one with the greater generation is in force.
     pub generation: u64,
     pub geometry: Geometry,
-    /// How many areas are in use in front of the last.
+    /// How many areas are in use before the last.
     pub in_front: u8,
-    /// The area that holds the first commands above the base; those behind it in the ring are in use too.
+    /// The area that holds the first commands above the base; those after it in the ring are in use too.
     pub first_area: u8,
     pub map_slot: Side,
     /// The number of the last command that map and data hold.
@@ -22,7 +22,7 @@ pub struct Header {
     pub ghost first_inside: { first_area < areas_of geometry.layout },
 }
 
-// The bytes of a header behind its gate.
+// The bytes of a header after its gate.
 pub const HEADER_BYTES: usize = 39;
 
 // `NBDJRNL1` and `NBDJRNL2` as numbers.
@@ -33,7 +33,7 @@ const MAGIC_TWO: u64 = 0x4e42_444a_524e_4c32;
 impl Header {
     ghost use Rattle.header_slots.specs.Header.{IsBadAt, SpellsAt, magic_of, mode_of};
 
-    // The bytes behind the gate.
+    // The bytes after the gate.
     pub fn encode(&self) -> [u8; HEADER_BYTES]
         ensures { SpellsAt result 0 self.now }
     {
@@ -89,7 +89,7 @@ impl Header {
         }
     }
 
-    // How many areas are in use in front of the last, by the byte that tells it.
+    // How many areas are in use before the last, by the byte that tells it.
     fn in_front(layout: Layout, mode: u8) -> Option<u8>
         ensures { MatchOption result ((in_front : ℕ) → in_front < areas_of layout → mode ≢ mode_of layout in_front)
             (λ in_front. (mode ≡ mode_of layout in_front) × (in_front < areas_of layout)) }
@@ -104,7 +104,7 @@ impl Header {
         Some(in_front)
     }
 
-    /// The header that these 39 bytes behind a gate spell; none where a field is outside its limits ("Header slot" of docs/FORMATS.md).
+    /// The header that these 39 bytes after a gate spell; none where a field is outside its limits ("Header slot" of docs/FORMATS.md).
     pub fn decode(bytes: &[u8]) -> Option<Header>
         requires { length bytes.now ≡ 39 }
         ensures { MatchOption result (IsBadAt bytes.now 0) (SpellsAt bytes.now 0) }

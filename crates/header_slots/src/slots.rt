@@ -15,7 +15,7 @@ use image_model::{CLOSED, OPEN, Side};
 /// The bytes of a header slot.
 pub const SLOT_BYTES: u64 = 4096;
 
-// The bytes of a slot behind its gate.
+// The bytes of a slot after its gate.
 const BODY_BYTES: usize = 4095;
 
 // What is read of both slots: slot 0, and slot 1 up to the end of its header.
@@ -48,7 +48,7 @@ pub fn read_current<D: Disk>(disk: &mut D) -> Result<(Header, Side), HeaderFault
     current_in(&front, disk.size())
 }
 
-// The header in force of a device of so many bytes that begins with these.
+// The header in force of a device of this many bytes that begins with these.
 fn current_in(front: &[u8], size: u64) -> Result<(Header, Side), HeaderFault>
     requires front { length front.now ≡ 4136 }
     requires size { 8192 ≤ size }
@@ -100,7 +100,7 @@ pub fn close_gate<D: Disk>(disk: &mut D, slot: Side) -> Result<(), DeviceFault>
     disk.write_at(slot_from(slot), &[CLOSED])
 }
 
-/// Writes a header behind a slot's gate and zeroes up to the slot's end, without a sync. Refusal 1 (device fault).
+/// Writes a header after a slot's gate and zeroes up to the slot's end, without a sync. Refusal 1 (device fault).
 pub fn fill_slot<D: Disk>(disk: &mut D, slot: Side, header: &Header) -> Result<(), DeviceFault>
     requires { 8192 ≤ D.extent disk.old }
     ensures extent { D.extent disk.new ≡ D.extent disk.old }
@@ -117,7 +117,7 @@ pub fn fill_slot<D: Disk>(disk: &mut D, slot: Side, header: &Header) -> Result<(
     disk.write_at(slot_from(slot) + 1, &body_of(header))
 }
 
-// What stands behind the gate of a slot with this header.
+// What stands after the gate of a slot with this header.
 fn body_of(header: &Header) -> [u8; BODY_BYTES]
     ensures { IsBodyOf header.now result }
 {
@@ -126,7 +126,7 @@ fn body_of(header: &Header) -> [u8; BODY_BYTES]
     bytes
 }
 
-/// Opens a slot's gate, without a sync; what stands behind it has to be stable. Refusal 1 (device fault).
+/// Opens a slot's gate, without a sync; what stands after it has to be stable. Refusal 1 (device fault).
 pub fn open_gate<D: Disk>(disk: &mut D, slot: Side) -> Result<(), DeviceFault>
     requires { 8192 ≤ D.extent disk.old }
     ensures extent { D.extent disk.new ≡ D.extent disk.old }

@@ -4,7 +4,7 @@ use crate::progress::{Progress, Work};
 use image_model::{BLOCK_BYTES, Geometry};
 use std::cell::Cell;
 
-// Where the first area begins.
+// The place where the first area begins.
 const JOURNAL_FROM: u64 = 8_192;
 
 const MIB: u64 = 1_048_576;

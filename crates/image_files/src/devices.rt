@@ -162,7 +162,7 @@ fn mounts_one(rt: &HostRuntime, devices: &[DeviceNumber]) -> io::Result<bool> {
     Ok(false)
 }
 
-// The device that a line of `mountinfo` names behind its hyphen.
+// The device that a line of `mountinfo` names after its hyphen.
 fn source_of(rt: &HostRuntime, mount: &str) -> Option<DeviceNumber> {
     let (_, behind) = mount.split_once(" - ")?;
     let source = behind.split(' ').nth(1)?;
@@ -235,7 +235,7 @@ fn is_same(one: &Metadata, other: &Metadata) -> bool {
 }
 
 /// Locks on what else names the bytes of a block device, as long as it is kept: its node in `/dev`, the device that it is a partition
-/// of, and the file behind a loop device.
+/// of, and the backing file of a loop device.
 #[derive(Drop)]
 pub struct Locks {
     _files: Vec<File>,
@@ -290,7 +290,7 @@ fn lock_node(
     Ok(None)
 }
 
-// Locks the file behind a loop device, or behind the one that this is a partition of.
+// Locks the backing file of a loop device, or of the one that this is a partition of.
 fn lock_backing(
     rt: &HostRuntime,
     device: DeviceNumber,

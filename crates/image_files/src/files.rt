@@ -110,7 +110,7 @@ pub struct Opened {
     pub locks: Locks,
 }
 
-// Looks before anything is opened, since the opening of a fifo waits, and that of some devices does something.
+// Looks before anything is opened, because the opening of a fifo waits, and that of some devices does something.
 fn place_of(rt: &HostRuntime, path: &str) -> Result<Place, FileFault> {
     let kind = fs::metadata(rt, path)?.file_type();
     if kind.is_file() {

@@ -4,7 +4,7 @@ use crate::progress::Progress;
 use std::io;
 use std::os::unix::fs::FileExt;
 
-// The bytes of one write: as many as those of an image, since Linux caches a file in folios as large as the writes that filled it, and
+// The bytes of one write: as many as those of an image, because Linux caches a file in folios as large as the writes that filled it, and
 // a later write of one block takes longer in a large one.
 const PIECE: usize = 32_768;
 

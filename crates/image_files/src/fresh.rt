@@ -11,8 +11,8 @@ use std::os::unix::fs::{FileExt, MetadataExt};
 const SECTOR_BYTES: u64 = 512;
 
 /// A file that is emptied, gets its full length, and has its first bytes allocated, all stable, before the first byte of it is written.
-/// So whoever gives up before that has lost nothing of what it held. A block device is written as it is; where all of it is to be
-/// allocated it is filled with zeroes.
+/// A caller that gives up before that has lost nothing of what the file held. A block device is written as it is; if all of it is
+/// to be allocated, it is filled with zeroes.
 #[derive(Drop)]
 pub struct FreshFile {
     rt: HostRuntime,
@@ -91,7 +91,7 @@ impl FreshFile {
         OpenFile::sync_all(&self.file)
     }
 
-    // Whether there is room shows before anything is lost: as many zeroes as blocks are missing are written behind the end, and taken
+    // Whether there is room shows before anything is lost: as many zeroes as blocks are missing are written after the end, and taken
     // away again.
     fn try_room(&self) -> io::Result<()> {
         let metadata = OpenFile::metadata(&self.file)?;

@@ -4,7 +4,7 @@ use header_slots::SLOT_BYTES;
 use std::io;
 use std::os::unix::fs::FileExt;
 
-// A slot's gate, and the header behind it.
+// A slot's gate, and the header after it.
 const USED_BYTES: usize = 40;
 
 /// The bytes up to the end of the header in slot 1.

@@ -109,7 +109,7 @@ impl Progress {
                 .as_millis()
                 .min(u128::from(u64::MAX)) as u64,
         };
-        // Where it can't be written nobody looks.
+        // If it can't be written, nobody looks.
         let _ = if self.is_terminal {
             eprint!(self.rt; "\rnbdj: [{}] {state} ", Bar { done, count })
         } else {

@@ -7,7 +7,7 @@ use std::fs::{Metadata, OpenFile};
 use std::io::{self, ErrorKind};
 use std::os::unix::fs::FileExt;
 
-/// Where the lines about a file go.
+/// Takes the lines about a file.
 pub trait FileLines {
     /// Tells a line, with `nbdj: ` before it. If it can't be written, it is lost.
     fn tell_line<T: Display + Drop>(&self, line: T);

@@ -12,7 +12,7 @@ use Rattle.image_model.specs.declared.command.Kind.TheVariants.{Data, Zero, Hole
 pub data Change : Type 0 where
   -- these bytes stand in the blocks from the first on
   Written : (first : ℕ) (bytes : List ℕ) → Change
-  -- so many blocks from the first on read as zero, and have this state
+  -- this many blocks from the first on read as zero, and have this state
   Cleared : (first blocks : ℕ) (kind : Kind) → Change
   -- the same, but in the edges of these blocks stand these bytes
   Edged : (first blocks : ℕ) (kind : Kind) (edges : Edges) (bytes : List ℕ) → Change
@@ -41,7 +41,7 @@ IsCleared Data = ⊥
 IsCleared Zero = Unit {0}
 IsCleared Hole = Unit {0}
 
--- A change that an image of so many blocks takes: 1 to 257 blocks of bytes, or blocks cleared, with or without edges. No
+-- A change that an image of this many blocks takes: 1 to 257 blocks of bytes, or blocks cleared, with or without edges. No
 -- block at all is cleared to holes alone, by a trim that covers no whole block. Counts have 32 bits, and the number of an
 -- edge 64.
 abbrev pub IsChange : ℕ → Change → Type 0
@@ -53,6 +53,6 @@ IsChange image (Edged first blocks kind edges bytes) =
     (least_blocks edges ≤ blocks) × (first + blocks ≤ image) × (blocks < 2 ^ 32) × IsCleared kind × (length bytes ≡ 4096 * edge_count edges)
     × (first + blocks ≤ 2 ^ 64)
 
--- changes that an image of so many blocks takes
+-- changes that an image of this many blocks takes
 abbrev pub AreChanges : ℕ → List Change → Type 0
 AreChanges image changes = AllByRecursion (IsChange image) changes

@@ -13,6 +13,6 @@ body_of command = body_bytes (change_of command)
 abbrev pub bodies_of : List Command → ℕ
 bodies_of commands = sum_by body_of commands
 
--- a command that an image of so many blocks takes
+-- a command that an image of this many blocks takes
 abbrev pub IsCommand : ℕ → Command → Type 0
 IsCommand image command = IsChange image (change_of command)

@@ -13,10 +13,10 @@ use Rattle.image_model.specs.Image.{Image, covers, is_data, last_of}
 pub data ByteEdit : Type 0 where
   -- these bytes stand from the offset on, and each block that they touch is data
   BytesPut : (offset : ℕ) (bytes : List ℕ) → ByteEdit
-  -- so many bytes from the offset on are zero, and a block that they touch has this state, but for a data block that they
+  -- this many bytes from the offset on are zero, and a block that they touch has this state, but for a data block that they
   -- cover in part, which stays data
   BytesZeroed : (offset count : ℕ) (kind : Kind) → ByteEdit
-  -- the blocks that lie wholly within so many bytes from the offset on are holes
+  -- the blocks that lie wholly within this many bytes from the offset on are holes
   BytesTrimmed : (offset count : ℕ) → ByteEdit
 
 -- the edit that the program holds
@@ -36,7 +36,7 @@ count_of (BytesPut offset bytes) = length bytes
 count_of (BytesZeroed offset count kind) = count
 count_of (BytesTrimmed offset count) = count
 
--- whether so many bytes from the offset on touch the block: one of them is one of its bytes
+-- whether this many bytes from the offset on touch the block: one of them is one of its bytes
 abbrev pub meets : ℕ → ℕ → ℕ → Bool
 meets offset count block = nat_lt (max offset (4096 * block)) (min (offset + count) (4096 * block + 4096))
 
@@ -69,7 +69,7 @@ apply_edit edit image = record {
   kind = λ block. kind_edited edit block (image.kind block);
 }
 
--- the bytes of so many blocks of an image
+-- the bytes of this many blocks of an image
 abbrev pub bytes_of : Image → ℕ → ℕ → List ℕ
 bytes_of image first blocks = map image.byte (range_with_len (4096 * first) (4096 * blocks))
 
@@ -77,14 +77,14 @@ bytes_of image first blocks = map image.byte (range_with_len (4096 * first) (409
 abbrev pub blocks_met : ℕ → ℕ → ℕ
 blocks_met offset count = (offset % 4096 + count + 4095) / 4096
 
--- the first block that begins at the offset or behind it, and the first that ends behind so many bytes from there on
+-- the first block that begins at the offset or after it, and the first that ends after this many bytes from there on
 abbrev pub first_spanned : ℕ → ℕ
 first_spanned offset = (offset + 4095) / 4096
 
 abbrev pub end_spanned : ℕ → ℕ → ℕ
 end_spanned offset count = (offset + count) / 4096
 
--- so many blocks are cleared, but for the first and the last of them where it is an edge, which has the bytes given for it
+-- this many blocks are cleared, but for the first and the last of them where it is an edge, which has the bytes given for it
 abbrev pub cleared_within : ℕ → ℕ → Kind → Bool → Bool → List ℕ → List ℕ → Change
 cleared_within first blocks kind true true head tail = Edged first blocks kind Both (head ++ tail)
 cleared_within first blocks kind true false head tail = Edged first blocks kind Head head
@@ -111,7 +111,7 @@ becomes (BytesTrimmed offset count) image =
     then Cleared (first_spanned offset) (end_spanned offset count - first_spanned offset) Hole
     else Cleared (offset / 4096) 0 Hole
 
--- an edit that an image of so many blocks takes: at least one byte, a put of at most 1,048,576
+-- an edit that an image of this many blocks takes: at least one byte, a put of at most 1,048,576
 abbrev pub IsEditKind : ByteEdit → Type 0
 IsEditKind (BytesPut offset bytes) = length bytes ≤ 1048576
 IsEditKind (BytesZeroed offset count kind) = (count < 2 ^ 32) × IsCleared kind

@@ -28,7 +28,7 @@ blocks_of (Written first bytes) = (length bytes + 4095) / 4096
 blocks_of (Cleared first blocks kind) = blocks
 blocks_of (Edged first blocks kind edges bytes) = blocks
 
--- the last of so many blocks from the first on
+-- the last of this many blocks from the first on
 abbrev pub last_of : ℕ → ℕ → ℕ
 last_of first blocks = first + blocks - 1
 
@@ -48,7 +48,7 @@ edge_slot Head is_first is_last = if is_first then Some 0 else None
 edge_slot Tail is_first is_last = if is_last then Some 0 else None
 edge_slot Both is_first is_last = if is_first then Some 0 else (if is_last then Some 4096 else None)
 
--- Where in a change's bytes those of the block stand, if the change makes the block data: this alone says which blocks it
+-- The place in a change's bytes where those of the block stand, if the change makes the block data: this alone says which blocks it
 -- writes, and with what.
 abbrev pub slot : ℕ → Change → Option ℕ
 slot block (Written first bytes) = if touches block (Written first bytes) then Some (4096 * (block - first)) else None
@@ -81,7 +81,7 @@ abbrev pub byte_in : Option ℕ → List ℕ → ℕ → ℕ
 byte_in None bytes offset = 0
 byte_in (Some at) bytes offset = slice_index bytes (at + offset)
 
--- the byte so far behind the start of a block after a change, where it was `byte` before
+-- the byte so far after the start of a block after a change, where it was `byte` before
 abbrev pub byte_after : ℕ → ℕ → Change → ℕ → ℕ
 byte_after block offset change byte = if touches block change then byte_in (slot block change) (data_of change) offset else byte
 

@@ -1,4 +1,4 @@
-/// A gate of a group or of a header that is open: what stands behind it counts. With every other byte it is closed.
+/// A gate of a group or of a header that is open: what stands after it counts. With every other byte it is closed.
 pub const OPEN: u8 = 1;
 
 /// The byte that closes a gate.

@@ -65,8 +65,8 @@ impl Geometry {
         })
     }
 
-    /// The geometry of this layout with so many blocks, and areas of so many bytes each; none where one of these is outside
-    /// its limits.
+    /// The geometry of this layout with `blocks` blocks, and areas of `size` bytes each; none if one of these is outside its
+    /// limits.
     pub fn with_areas(layout: Layout, blocks: u64, size: u32) -> Option<Geometry>
         ensures given { IfSome result (λ geometry. (geometry.blocks ≡ blocks) × (area_size_of layout geometry.area ≡ size) × (geometry.layout ≡ layout)) }
         ensures within { IsSome result ↔ AreSizesOf layout blocks size }

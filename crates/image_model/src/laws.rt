@@ -26,8 +26,8 @@ pub fn whole_edits_become_commands()
         → becomes (BytesTrimmed offset count) image ≡ Cleared (offset / 4096) (count / 4096) Kind.Hole }
 {}
 
-/// A law: a put becomes the put of the blocks that it touches, whose bytes are the image's in front of it, its own, and the
-/// image's behind it up to the end of its last block.
+/// A law: a put becomes the put of the blocks that it touches, whose bytes are the image's before it, its own, and the
+/// image's after it up to the end of its last block.
 pub fn puts_become_commands()
     ensures parts { (offset : ℕ) (bytes : List ℕ) (image : Image)
         → becomes (BytesPut offset bytes) image ≡ Written (offset / 4096) (front_bytes offset bytes image ++ (bytes ++ back_bytes offset bytes image)) }

@@ -21,7 +21,7 @@ impl Layout {
         }
     }
 
-    /// The bytes of each of them, where a geometry's area has so many.
+    /// The bytes of each of them, if a geometry's area has `area` bytes.
     pub const fn area_size(self, area: u32) -> u32
         ensures { result ≡ area_size_of self area }
     {

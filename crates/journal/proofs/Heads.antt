@@ -1,4 +1,4 @@
--- what calls that add bytes behind others leave, where the last answers for all
+-- what calls that add bytes after others leave, where the last answers for all
 use Rattle.std.proofs.Common.{◌≡◌, ◌∙◌, if◌then◌else◌, List, ◌++◌, Result, Ok, Err, is_ok, OnOk, ap, sym, append_assoc}
 
 -- three parts

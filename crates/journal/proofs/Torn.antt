@@ -1,4 +1,4 @@
--- What a crash may leave while a group is written behind its gate, and the gate then opened.
+-- What a crash may leave while a group is written after its gate, and the gate then opened.
 use Rattle.std.proofs.Common.{◌≡◌, inl, inr, ℕ, ◌+◌, List, [], ◌∷◌, length, slice_index, subst, add-zero, sym, ◌∙◌, arith}
 use Rattle.disk_model.specs.Disk.{State, InRange, IsSyncedIn, IsSound, IsStored, IsWritten, MayLeaveTorn}
 use Rattle.disk_model.specs.laws.Contents.{stored_first}
@@ -28,7 +28,7 @@ module _ (extent : ℕ) (before : State) (gate : ℕ) (bytes : List ℕ) (sound 
     mid_whole : StandsAt mid.seen (gate + 1) bytes
     mid_whole k below = stored.written k below (λ loose. stable (gate + 1 + k) (omega arith, omega (arith, below)) (sound.loose (gate + 1 + k) loose))
 
-    -- the gate is torn, and the body stands behind it
+    -- the gate is torn, and the body stands after it
     pub torn_gate : (content : List ℕ) → MayLeaveTorn mid gate 1 content → LeavesGateOrBytes before gate bytes content
     torn_gate content left = record {
       others = record {

@@ -6,7 +6,7 @@ use Rattle.journal_format.specs.Group.{Numbered, number_after}
 use Rattle.journal_format.specs.Spelling.{stored_of}
 use Rattle.journal_format.specs.Touches.{touched_by_changes}
 
--- where in the area the gate behind the group would end
+-- where in the area the gate after the group would end
 abbrev pub end_after : AreaState → Numbered → ℕ
 end_after area group = area.gate + 18 + bodies_of group.commands
 

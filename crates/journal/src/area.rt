@@ -24,8 +24,8 @@ const MOST_KEPT_BYTES: usize = 1_048_576;
 
 /// A part of a device that holds a list of groups.
 ///
-/// Behind the last group stands a gate that isn't open. A group is written behind that gate, with the next gate closed;
-/// its own gate is opened when the group is stable.
+/// After the last group stands a gate that isn't open. A group is written after that gate, with the next gate closed; the
+/// group's own gate is opened once the group is stable.
 pub struct Area {
     from: u64,
     bytes: u32,
@@ -72,8 +72,8 @@ impl Model for Area {
 }
 
 impl Area {
-    /// The area of so many bytes from byte `from` of the device on, for an image of so many blocks; its list is empty
-    /// until `scan`, and its first group begins with the number `next`, where 0 says that no number is left.
+    /// The area of `bytes` bytes from byte `from` of the device on, for an image of `blocks` blocks. Its list is empty until
+    /// `scan`, and its first group begins with the number `next`; 0 says that no number is left.
     pub fn new(alloc: Global, from: u64, bytes: u32, blocks: u64, next: u64) -> Area
         requires on_device { from + bytes < 2 ^ 64 }
         requires some { 0 < bytes }
@@ -149,7 +149,7 @@ impl Area {
 
     /// Adds the group at the end of the list and makes it stable.
     ///
-    /// Four calls of the device: the group's body and the closed gate behind it, sync, its gate, sync. Refusals 0 (no
+    /// Four calls of the device: the group's body and the closed gate after it, sync, its gate, sync. Refusals 0 (no
     /// memory), 1 (device fault), 10 (area full) and 11 (out of order): the group comes back, and after a device fault the
     /// area isn't written again before it is scanned anew.
     pub fn append<D: Disk>(
@@ -199,7 +199,7 @@ impl Area {
         }
     }
 
-    // Writes the group behind the list and opens its gate. What the group touches is noted; else what the area remembers
+    // Writes the group after the list and opens its gate. What the group touches is noted; else what the area remembers
     // of its list stays as it was.
     fn store<D: Disk>(&mut self, disk: &mut D, group: &Group) -> Result<(), JournalFault>
         requires { self.old.from + self.old.bytes ≤ D.extent disk.old }
@@ -237,7 +237,7 @@ impl Area {
     /// group has to begin with.
     ///
     /// It takes memory for what the commands touched, and 1 MiB while it reads. Refusals 0 (no memory), 1 (device fault)
-    /// and 12 (damaged group: behind an open gate stands no whole group with the next numbers), which change nothing.
+    /// and 12 (damaged group: no whole group with the next numbers stands after an open gate), which change nothing.
     pub fn scan<D: Disk>(&mut self, alloc: Global, disk: &mut D) -> Result<(), JournalFault>
         requires { self.old.from + self.old.bytes ≤ D.extent disk.old }
         ensures err { OnErr result (self.new ≡ self.old) }
@@ -252,7 +252,7 @@ impl Area {
         // On an honest device nothing is written, and a crash leaves what it might have left before.
         ensures only_read { D.honest disk.old → IsOnlyRead (D.state disk.old) (D.state disk.new) }
 
-        // Where besides nothing of the area is unsynced: at `Ok` the area is at the end of the list that it holds, and
+        // If besides nothing of the area is unsynced: at `Ok` the area is at the end of the list that it holds, and
         // `DamagedGroup` comes only where it is damaged, and some refusal always does there.
         ensures held { D.honest disk.old → IsSyncedIn (D.state disk.old) self.old.from self.old.bytes
             → OnOk result (HoldsList self.new self.old.next (D.state disk.new)) }
@@ -312,7 +312,7 @@ fn let_go(buffer: &mut Vec<u8>)
     }
 }
 
-// Writes what stands behind the gate, and when that is stable opens the gate.
+// Writes what stands after the gate, and when that is stable opens the gate.
 fn write_group<D: Disk>(disk: &mut D, gate: u64, body: &[u8]) -> Result<(), DeviceFault>
     requires { gate + 1 + length body.now ≤ D.extent disk.old }
     ensures extent { D.extent disk.new ≡ D.extent disk.old }

@@ -14,9 +14,9 @@ use journal_format::{
 use std::alloc::AllocError;
 use std::marker::Model;
 
-/// Commands with consecutive numbers, which are stored whole or not at all.
+/// Commands with consecutive numbers, which are stored all or not at all.
 ///
-/// A group can't be let go: it is spent by `Area::append`, or taken apart by `into_parts`.
+/// A group can't be dropped: `Area::append` takes it, or `into_parts` takes it apart.
 pub struct Group {
     first: u64,
     commands: Vec<Command>,
@@ -99,7 +99,7 @@ impl Group {
         self.body
     }
 
-    // The number behind the last; 0 where no number is left.
+    // The number after the last; 0 where no number is left.
     pub(crate) fn number_after(&self) -> u64
         ensures { result ≡ number_after self.now }
     {
@@ -130,7 +130,7 @@ impl Group {
         Ok(())
     }
 
-    // What is written behind the group's gate: its head, its commands, and the next gate closed.
+    // What is written after the group's gate: its head, its commands, and the next gate closed.
     pub(crate) fn spell(&self, buffer: &mut Vec<u8>) -> Result<(), AllocError>
         ensures spelled { OnOk result (buffer.new.items ≡ group_bytes (stored_of self.now) ++ 0 ∷ []) }
     {
@@ -206,7 +206,7 @@ fn cleared(first: u64, blocks: u32, kind: Kind) -> TouchedRange
     }
 }
 
-// The head of a group behind its gate: the length of its body, its first number, its count of commands.
+// The head of a group after its gate: the length of its body, its first number, its count of commands.
 #[tactic(auto, unfolding(journal_format::specs::Spelling::group_head))]
 fn spell_group_head(
     body: u32,
@@ -221,7 +221,7 @@ fn spell_group_head(
     buffer.extend_from_slice(&count.to_be_bytes())
 }
 
-// A command of a group: its head, and its bytes, with edges behind the byte that says which.
+// A command of a group: its head, and its bytes, with edges after the byte that says which.
 #[tactic(auto, unfolding(journal_format::specs::Spelling::change_bytes))]
 fn spell_command(command: &Command, buffer: &mut Vec<u8>) -> Result<(), AllocError>
     requires { body_of command.now ≤ 8388608 }

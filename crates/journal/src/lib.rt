@@ -1,4 +1,4 @@
-//! The journal: groups of commands in an area of a device, each behind a gate.
+//! The journal: groups of commands in an area of a device, each guarded by a gate.
 #![tactic(auto)]
 
 mod area;

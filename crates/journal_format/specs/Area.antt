@@ -11,7 +11,7 @@ pub record AreaState : Type 0 where
   pub blocks : ℕ
   -- the number that the next group begins with; 0 where no number is left
   pub next : ℕ
-  -- the place in the area of the gate behind its last group
+  -- the place in the area of the gate after its last group
   pub gate : ℕ
   -- what its commands touched, in their order
   pub touched : List TouchedRange

@@ -14,6 +14,6 @@ pub record IsGroup (first : ℕ) (commands : List Command) : Type 0 where
   pub bodies : bodies_of commands ≤ 8388608
   pub numbers : first + length commands ≤ 18446744073709551616
 
--- the number behind a group's last; 0 where no number is left
+-- the number after a group's last; 0 where no number is left
 abbrev pub number_after : Numbered → ℕ
 number_after group = (group.first + length group.commands) % 18446744073709551616

@@ -35,7 +35,7 @@ abbrev pub next_behind : ℕ → List StoredGroup → ℕ
 next_behind next [] = next
 next_behind next (group ∷ groups) = next_behind (number_behind group) groups
 
--- a group that may be the next in a journal of an image of so many blocks: at least one command, a body of at most
+-- a group that may be the next in a journal of an image of this many blocks: at least one command, a body of at most
 -- 8,388,608 bytes, and its numbers begin with `next` and have 64 bits
 pub record IsNextGroup (image next : ℕ) (group : StoredGroup) : Type 0 where
   pub some : 1 ≤ length group.changes
@@ -45,14 +45,14 @@ pub record IsNextGroup (image next : ℕ) (group : StoredGroup) : Type 0 where
   pub numbers : next + length group.changes ≤ 18446744073709551616
   pub changes : AreChanges image group.changes
 
--- from the place on stand these groups, each behind an open gate, and then a gate that isn't open
+-- from the place on stand these groups, each after an open gate, and then a gate that isn't open
 abbrev pub Stand : ℕ → List ℕ → ℕ → ℕ → List StoredGroup → Type 0
 Stand image content place next [] = IsOpen content place → ⊥
 Stand image content place next (group ∷ groups) =
     IsOpen content place × StandsAt content (place + 1) (group_bytes group) × IsNextGroup image next group
     × Stand image content (place + size_of group) (number_behind group) groups
 
--- from the place on stand these groups, each behind an open gate, whatever follows them
+-- from the place on stand these groups, each after an open gate, whatever follows them
 abbrev pub Lead : ℕ → List ℕ → ℕ → ℕ → List StoredGroup → Type 0
 Lead image content place next [] = ⊤
 Lead image content place next (group ∷ groups) =
@@ -64,7 +64,7 @@ pub record IsList (area : AreaState) (first : ℕ) (groups : List StoredGroup) (
   pub stand : Stand area.blocks content area.from first groups
   pub inside : sizes_of groups < area.bytes
 
--- the area is damaged: some groups stand in it, and then an open gate with no group behind it that may be the next and
+-- the area is damaged: some groups stand in it, and then an open gate with no group after it that may be the next and
 -- leaves room for a gate
 pub record IsDamaged (area : AreaState) (first : ℕ) (content : List ℕ) : Type 0 where
   pub groups : List StoredGroup

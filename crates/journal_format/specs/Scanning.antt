@@ -28,7 +28,7 @@ pub record IsScanned (content : List ℕ) (state : State) (area bytes : ℕ) : T
   pub inside : area + bytes ≤ length content
   pub same : (place : ℕ) → InRange area bytes place → slice_index state.seen place ≡ slice_index content place
 
--- the gate is open, and no next group stands behind it that leaves room for a gate in front of `end`
+-- the gate is open, and no next group stands after it that leaves room for a gate before `end`
 pub record HasNoGroup (image : ℕ) (content : List ℕ) (gate next end : ℕ) : Type 0 where
   pub is_open : IsOpen content gate
   pub none : (group : StoredGroup) → IsNextGroup image next group → StandsAt content (gate + 1) (group_bytes group) → gate + size_of group < end → ⊥
@@ -41,8 +41,8 @@ pub record FoundList (image : ℕ) (content : List ℕ) (place first gate next :
   pub next_is : next ≡ next_behind first groups
   pub noted : touched ≡ touched_by_groups place groups
 
--- the place on holds some groups, and then an open gate with no group behind it that may be the next and leaves room
--- for a gate in front of the end
+-- the place on holds some groups, and then an open gate with no group after it that may be the next and leaves room
+-- for a gate before the end
 pub record FoundDamage (image : ℕ) (content : List ℕ) (place bytes first : ℕ) : Type 0 where
   pub groups : List StoredGroup
   pub lead : Lead image content place first groups

@@ -50,10 +50,10 @@ change_bytes (Edged first blocks kind edges bytes) = change_head (edged_byte kin
 abbrev pub body_of_group : StoredGroup → List ℕ
 body_of_group group = flat_map change_bytes group.changes
 
--- the head of a group behind its gate: the length of its body, the number of its first command, the count of commands
+-- the head of a group after its gate: the length of its body, the number of its first command, the count of commands
 unfoldable pub group_head : ℕ → ℕ → ℕ → List ℕ
 group_head body first count = big_bytes 4 body ++ (big_bytes 8 first ++ big_bytes 4 count)
 
--- what stands behind a group's gate: its head, and its body
+-- what stands after a group's gate: its head, and its body
 unfoldable pub group_bytes : StoredGroup → List ℕ
 group_bytes group = group_head (length (body_of_group group)) group.first (length group.changes) ++ body_of_group group

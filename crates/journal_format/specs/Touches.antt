@@ -14,11 +14,11 @@ use Rattle.journal_format.specs.declared.touch.StoredEdges.{StoredEdges}
 use Rattle.journal_format.specs.declared.touch.TouchedRange.{TouchedRange}
 use Rattle.journal_format.specs.Spelling.{StoredGroup, change_bytes, body_of_group}
 
--- the last of so many blocks from the first on, as a number of 64 bits
+-- the last of this many blocks from the first on, as a number of 64 bits
 abbrev pub tail_block : ℕ → ℕ → ℕ
 tail_block first blocks = (first + (blocks - 1)) % 18446744073709551616
 
--- The edges of so many blocks from the first on, where so many blocks of bytes stand for them from this place on: one for
+-- The edges of this many blocks from the first on, where this many blocks of bytes stand for them from this place on: one for
 -- each, the head's in front.
 abbrev pub edge_ranges : ℕ → ℕ → Edges → ℕ → ℕ → List TouchedRange
 edge_ranges first blocks Head place stored = record { first = first; blocks = min 1 stored; touch = Put place } ∷ []
@@ -53,7 +53,7 @@ touched_by_groups place [] = []
 touched_by_groups place (group ∷ groups) =
     touched_by_changes (place + 17) group.changes ++ touched_by_groups (place + (17 + length (body_of_group group))) groups
 
--- what a touch of some blocks is for one of them, so many behind the first
+-- what a touch of some blocks is for one of them, this many after the first
 abbrev pub touch_within : ℕ → Touch → Touch
 touch_within blocks (Put place) = Put (place + 4096 * blocks)
 touch_within blocks (Clear kind) = Clear kind
@@ -72,7 +72,7 @@ abbrev pub last_touch : ℕ → List TouchedRange → Option Touch
 last_touch block [] = None
 last_touch block (range ∷ ranges) = later (touch_in block range) (last_touch block ranges)
 
--- the bytes of a put of so many blocks stand between these places of the device
+-- the bytes of a put of this many blocks stand between these places of the device
 abbrev pub HasBytesWithin : ℕ → ℕ → ℕ → Touch → Type 0
 HasBytesWithin from end blocks (Put place) = (from ≤ place) × (place + 4096 * blocks ≤ end)
 HasBytesWithin from end blocks (Clear kind) = Unit {0}
@@ -90,7 +90,7 @@ kind_after None kind = kind
 kind_after (Some (Put place)) kind = Data
 kind_after (Some (Clear cleared)) kind = cleared
 
--- the byte so far behind the start of a block after the block's last touch, where it was `byte` before all
+-- the byte so far after the start of a block after the block's last touch, where it was `byte` before all
 abbrev pub byte_after_touch : Option Touch → List ℕ → ℕ → ℕ → ℕ
 byte_after_touch None content offset byte = byte
 byte_after_touch (Some (Put place)) content offset byte = slice_index content (place + offset)

@@ -14,11 +14,11 @@ pub enum JournalFault {
     NoMemory,
     /// 1: a call of the device failed.
     DeviceFault,
-    /// 10: the group and the gate behind it don't fit the area.
+    /// 10: the group and the gate after it don't fit the area.
     AreaFull,
     /// 11: the group fits, and its first number isn't the area's next.
     OutOfOrder,
-    /// 12: behind an open gate stands no whole group.
+    /// 12: no whole group stands after an open gate.
     DamagedGroup,
 }
 

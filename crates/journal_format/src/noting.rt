@@ -39,7 +39,7 @@ impl CommandTouch {
 }
 
 impl StoredEdges {
-    // Notes the edges of so many blocks.
+    // Notes the edges of this many blocks.
     fn note(
         self,
         touched: &mut Vec<TouchedRange>,

@@ -62,7 +62,7 @@ struct FoundCommand {
     end: u32,
 }
 
-/// Where the next gate stands, and the number that follows the group; 0 where no number is left.
+/// The place of the next gate, and the number after the group; 0 if no number is left.
 #[derive(Clone, Copy)]
 pub struct Behind {
     pub gate: u32,
@@ -70,7 +70,7 @@ pub struct Behind {
 }
 
 impl Place {
-    /// Where the list ends whose first group has to begin with `next`; what its commands touch is noted. Refusals 0 (no
+    /// The end of the list whose first group has to begin with `next`; what its commands touch is noted. Refusals 0 (no
     /// memory), 1 (device fault) and 12 (damaged group).
     pub fn list_end<D: Disk>(
         &self,
@@ -104,7 +104,7 @@ impl Place {
         Ok(end)
     }
 
-    // What stands behind the group at this gate, whose first number has to be `next`; none where the gate is closed.
+    // What stands after the group at this gate, whose first number has to be `next`; none where the gate is closed.
     fn group_at<D: Disk>(
         &self,
         disk: &mut D,
@@ -142,7 +142,7 @@ impl Place {
         Ok(Some(found))
     }
 
-    // What stands behind the group at this gate, which is open.
+    // What stands after the group at this gate, which is open.
     fn open_group<D: Disk>(
         &self,
         disk: &mut D,
@@ -186,7 +186,7 @@ impl Place {
         })
     }
 
-    // That exactly so many well formed commands stand between these places; what they touch is noted.
+    // That exactly this many well formed commands stand between these places; what they touch is noted.
     fn commands<D: Disk>(
         &self,
         disk: &mut D,
@@ -276,7 +276,7 @@ impl Place {
         })
     }
 
-    // Which edges the byte behind this head says, where the head is one with edges; none where it says none.
+    // Which edges the byte after this head says, where the head is one with edges; none where it says none.
     fn edges<D: Disk>(
         &self,
         disk: &mut D,
@@ -404,7 +404,7 @@ impl CommandHead {
         }
     }
 
-    // The bytes behind the 13 of the head, where it has these edges; none where the command isn't one for an image of so
+    // The bytes after the 13 of the head, where it has these edges; none where the command isn't one for an image of so
     // many blocks.
     fn data_bytes(self, image: u64, edges: Option<Edges>) -> Option<u32>
         ensures bounded { IfSome result (λ bytes. bytes ≤ 1052672) }
@@ -425,7 +425,7 @@ impl CommandHead {
         }
     }
 
-    // What the command touches, whose data stand from this place of the device on, with edges behind the byte that says
+    // What the command touches, whose data stand from this place of the device on, with edges after the byte that says
     // which.
     fn touch(self, place: u64, edges: Option<Edges>) -> CommandTouch
         requires on_device { IsEdgedKind self.kind → (own : Edges) → edges ≡ Some own → place + 1 + 4096 * edge_count own < 2 ^ 64 }
@@ -473,7 +473,7 @@ fn edges_of(byte: u8) -> Option<Edges>
     }
 }
 
-// The bytes behind the head of a command with these edges; none where it has none, or fewer blocks than these are.
+// The bytes after the head of a command with these edges; none where it has none, or fewer blocks than these are.
 fn edges_bytes(edges: Option<Edges>, blocks: u32) -> Option<u32>
     ensures some { IfSome result (λ bytes. (own : Edges) × (edges ≡ Some own) × (least_blocks own ≤ blocks) × (bytes ≡ 1 + 4096 * edge_count own)) }
     ensures none { IfNone result ((own : Edges) → edges ≡ Some own → least_blocks own ≤ blocks → ⊥) }
@@ -486,7 +486,7 @@ fn edges_bytes(edges: Option<Edges>, blocks: u32) -> Option<u32>
     }
 }
 
-// These edges, whose bytes stand behind the byte at this place.
+// These edges, whose bytes stand after the byte at this place.
 fn stored(edges: Option<Edges>, place: u64) -> Option<StoredEdges>
     requires { (own : Edges) → edges ≡ Some own → place + 1 + 4096 * edge_count own < 2 ^ 64 }
     ensures some { (own : Edges) → edges ≡ Some own → (first blocks : ℕ)

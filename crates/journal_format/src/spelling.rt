@@ -2,7 +2,7 @@
 pub const GROUP_HEAD_BYTES: u32 = 17;
 /// The most bytes of a group's body.
 pub const MOST_BODY_BYTES: u32 = 8_388_608;
-/// The bytes of a command in front of a put's data: its kind, its first block and its blocks.
+/// The bytes of a command before a put's data: its kind, its first block and its blocks.
 pub const COMMAND_HEAD_BYTES: u32 = 13;
 
 /// The kind of a command in a group that is a put.
@@ -16,7 +16,7 @@ pub const EDGED_HOLE: u8 = 4;
 /// The kind of a clear to allocated zero but for edges.
 pub const EDGED_ALLOCATED_ZERO: u8 = 5;
 
-/// The byte behind the head of a command with edges, where its head is one.
+/// The byte after the head of a command with edges, where its head is one.
 pub const HEAD: u8 = 1;
 /// The same, where its tail is one.
 pub const TAIL: u8 = 2;

@@ -7,7 +7,7 @@ use disk_model::{DeviceFault, Disk};
 use std::alloc::{AllocError, Global};
 use std::marker::Model;
 
-// The most bytes that one read takes, and those of a read behind a jump.
+// The most bytes that one read takes, and those of a read after a jump.
 const WINDOW_BYTES: u32 = 1_048_576;
 
 const LEAST_WINDOW_BYTES: u32 = 65_536;
@@ -87,7 +87,7 @@ impl Window {
         self.from <= place && count <= self.held && place - self.from <= self.held - count
     }
 
-    // How many bytes the next read takes: twice as many as the last one where it goes on behind it, so that a list of short
+    // How many bytes the next read takes: twice as many as the last one where it goes on after it, so that a list of short
     // commands is read in long pieces, and of one of long puts little more than their heads.
     fn next_bytes(&self, place: u32) -> u32
         ensures { (65536 ≤ result) × (result ≤ 1048576) }
@@ -126,7 +126,7 @@ impl Window {
     }
 }
 
-// Reads so many bytes into the front of a buffer.
+// Reads this many bytes into the front of a buffer.
 fn read_front<D: Disk>(
     disk: &mut D,
     offset: u64,

@@ -14,7 +14,7 @@ use Rattle.latest_writes.specs.laws.Said.{said_inside, said_by_none_before, touc
 abbrev one_if : Bool → ℕ
 one_if b = cond b 1 0
 
--- so many numbers from one on that pass a test
+-- this many numbers from one on that pass a test
 pub counted : (ℕ → Bool) → ℕ → ℕ → ℕ
 counted p from n = count_by p (range_with_len from n)
 

@@ -45,7 +45,7 @@ found_behind from to range ranges put apart found = record {
   longest = λ more. found.longest (sym (touch_at_rest range ranges (put.first + put.blocks) (omega (arith, found.behind))) ∙ more);
 }
 
--- what comes behind a range doesn't go on from it
+-- what comes after a range doesn't go on from it
 touch_behind : (range : LastRange) (to : ℕ) (ranges : List LastRange) → AreRanges (range.first + range.blocks) to ranges → EndsBefore range ranges
     → touch_at (range.first + range.blocks) ranges ≡ Some (touch_within range.blocks range.touch) → ⊥
 touch_behind range to [] apart ends more = some_is_none (sym more)
@@ -156,7 +156,7 @@ no_put (range ∷ ranges) block all =
     let first = no_put_first range.first range.blocks range.touch (puts_of ranges) block all in
     no_put_later (said_by range.first range.blocks range.touch block) (touch_at block ranges) first.0 (no_put ranges block first.1)
 
--- the first put that ends behind a block
+-- the first put that ends after a block
 module _ (blocks from index : ℕ) (ranges : List LastRange) (apart : AreRanges 0 blocks ranges) (longest : AreLongest ranges)
     (before : AllWithin (EndsBy from) (puts_of ranges) 0 index) (behind : AllWithin (EndsBehind from) (puts_of ranges) index (length (puts_of ranges))) where
   pub none_behind : length (puts_of ranges) ≤ index → HasNoPut from ranges

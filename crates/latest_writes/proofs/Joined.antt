@@ -1,4 +1,4 @@
--- One more range behind others.
+-- One more range after others.
 use Rattle.std.proofs.Common.{◌≡◌, ⊎_elim, ℕ, ◌+◌, ◌-◌, ◌≤◌, Option, Some, None, List, [], ◌∷◌, ◌++◌, sym, ◌∙◌, ap, subst, refl, arith}
 use Rattle.std.proofs.lemmas.Bool.{cases_lt}
 use Rattle.latest_writes.specs.declared.touch.LastTouch.{LastTouch}
@@ -7,7 +7,7 @@ use Rattle.latest_writes.specs.Touches.{later, said_by, touch_within}
 use Rattle.latest_writes.specs.Ranges.{AreLongest, AreRanges, GoesOn, IsRange, touch_at}
 use Rattle.latest_writes.specs.laws.Said.{later_later, said_before, said_behind, said_inside, touch_at-append, touch_within-touch_within, AreRanges-earlier, HasBytesWithin-joined}
 
--- ranges behind others
+-- ranges after others
 pub AreRanges-append : (from at to : ℕ) (xs ys : List LastRange) → AreRanges from at xs → AreRanges at to ys → AreRanges from to (xs ++ ys)
 AreRanges-append from at to [] ys one two = AreRanges-earlier from at to ys one two
 AreRanges-append from at to (x ∷ xs) ys one two = (one.0, one.1, AreRanges-append (x.first + x.blocks) at to xs ys one.2 two)
@@ -85,7 +85,7 @@ module _ (old front : List LastRange) (last range : LastRange) (are : old ≡ fr
   pushed_longest longest ends =
       subst (λ (l : List LastRange). AreLongest (l ++ range ∷ [])) (sym are) (AreLongest-push front last range (subst (λ (l : List LastRange). AreLongest l) are longest) ends)
 
--- one range more behind the others
+-- one range more after the others
 pub pushed_apart : (old : List LastRange) (range : LastRange) → AreRanges 0 range.first old → IsRange range → AreRanges 0 (range.first + range.blocks) (old ++ range ∷ [])
 pushed_apart old range apart is_range = AreRanges-append 0 range.first (range.first + range.blocks) old (range ∷ []) apart (omega arith, is_range, omega arith)
 

@@ -10,7 +10,7 @@ use Rattle.latest_writes.specs.Ranges.{AreRanges, touch_at}
 use Rattle.latest_writes.specs.inner.Ranges.{IsNextLaid, IsPartOf, left_at}
 use Rattle.latest_writes.specs.laws.Said.{later_none, said_before, said_behind, said_inside, said_by_none_before, said_by_none_behind, touch_at_first, touch_at_rest, touch_within-touch_within, AreRanges-earlier, HasBytesWithin-behind, HasBytesWithin-fewer}
 
--- before `done` nothing is left, and behind it all
+-- before `done` nothing is left, and after it all
 pub left_before : (older newer : List LastRange) (done block : ℕ) → block < done → left_at older newer done block ≡ None
 left_before older newer done block low =
     let test : nat_lt block done ≡ true = grind (arith, nat_tests) in
@@ -142,7 +142,7 @@ part_of_first all rest range from to first blocks are apart behind first_is befo
           (cases_lt block first);
     }
 
--- no range has blocks from one block on where the first one begins behind it
+-- no range has blocks from one block on where the first one begins after it
 pub none_before_first : (all rest : List LastRange) (range : LastRange) (from to : ℕ) → all ≡ range ∷ rest → AreRanges 0 4294967295 all → to ≤ max range.first from
     → (block : ℕ) → from ≤ block → block < to → touch_at block all ≡ None
 none_before_first all rest range from to are apart ends block low high =

@@ -18,7 +18,7 @@ pub record IsRange (range : LastRange) : Type 0 where
   pub blocks_fit : range.first + range.blocks ≤ 4294967295
   pub bytes_fit : HasBytesWithin 4294967295 range.blocks range.touch
 
--- ranges from one block on up to another, each behind the one before it
+-- ranges from one block on up to another, each after the one before it
 abbrev pub AreRanges : ℕ → ℕ → List LastRange → Type 0
 AreRanges from to [] = from ≤ to
 AreRanges from to (range ∷ ranges) = (from ≤ range.first) × IsRange range × AreRanges (range.first + range.blocks) to ranges

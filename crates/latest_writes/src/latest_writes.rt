@@ -80,7 +80,7 @@ impl LastTouches {
         self.blocks_to_copy
     }
 
-    /// The first block from `from` on whose last touch is a put, with the blocks behind it that follow it in the image
+    /// The first block from `from` on whose last touch is a put, with the blocks after it that follow it in the image
     /// and in the area. The time it takes goes with the logarithm of the number of ranges.
     pub fn next_put(&self, from: u32) -> Option<PutRange>
         ensures some { IfSome result (IsNextPut from self.now.ranges) }
@@ -119,7 +119,7 @@ fn resolved(
     )
 }
 
-// The most ranges of so many touched ones: each adds at most one, and leaves at most two parts of another; so of a newer
+// The most ranges of this many touched ones: each adds at most one, and leaves at most two parts of another; so of a newer
 // range with the older ones.
 fn most_ranges(touched: usize, older: usize, newer: usize) -> usize
     ensures { result ≤ touched + touched }
@@ -166,7 +166,7 @@ fn puts(alloc: Global, ranges: &[LastRange]) -> Result<Vec<PutRange>, AllocError
     Ok(puts)
 }
 
-// The index of the first put that ends behind the block.
+// The index of the first put that ends after the block.
 fn first_behind(puts: &[PutRange], block: u32) -> usize
     requires { IsNonDecreasingBy (λ put. put.first + put.blocks) puts.now }
     ensures before { AllWithin (EndsBy block) puts.now 0 result }

@@ -16,7 +16,7 @@ struct Laid {
     done: u32,
 }
 
-// The newer ranges laid over the older ones, with room for so many. It takes a step for each range and each part of one.
+// The newer ranges laid over the older ones, with room for this many. It takes a step for each range and each part of one.
 pub fn overlay(
     alloc: Global,
     most: usize,
@@ -83,7 +83,7 @@ fn range_at(ranges: &[LastRange], index: usize) -> Option<LastRange>
     }
 }
 
-// The index of the first range from one index on that ends behind the block.
+// The index of the first range from one index on that ends after the block.
 fn first_behind(ranges: &[LastRange], index: usize, block: u32) -> usize
     requires { AreRanges 0 4294967295 (drop index ranges.now) }
     ensures left { AreRanges 0 4294967295 (drop result ranges.now) }
@@ -117,7 +117,7 @@ fn part_of(ranges: &[LastRange], index: usize, from: u32, to: u32) -> Option<Las
     Some(range.from_block(first).before(to))
 }
 
-// One more range behind the others; it is joined to the last one where it goes on from it.
+// One more range after the others; it is joined to the last one where it goes on from it.
 fn join(ranges: &mut Vec<LastRange>, range: LastRange) -> Result<(), AllocError>
     requires apart { AreRanges 0 range.first ranges.old.items }
     requires longest { AreLongest ranges.old.items }

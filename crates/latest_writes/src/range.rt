@@ -28,7 +28,7 @@ pub struct PutRange {
 }
 
 impl LastRange {
-    // The block behind the last.
+    // The block after the last.
     pub(crate) fn end(self) -> u32
         requires { self.first + self.blocks ≤ 4294967295 }
         ensures { result ≡ self.first + self.blocks }
@@ -83,7 +83,7 @@ impl PutRange {
         self.first <= block && self.blocks <= block - self.first
     }
 
-    // Its blocks from this one on: all of them where it begins there or behind it.
+    // Its blocks from this one on: all of them where it begins there or after it.
     pub(crate) fn from_block(self, block: u32) -> PutRange
         requires blocks_fit { self.first + self.blocks ≤ 4294967295 }
         requires bytes_fit { self.place + 4096 * self.blocks ≤ 4294967295 }

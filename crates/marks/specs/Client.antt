@@ -43,7 +43,7 @@ accepting mode number client = record client { state = waiting_by (waits_for_sto
 abbrev pub flushing : Mode → ℕ → Client → Client
 flushing mode number client = record client { state = waiting_by (λ request. flush_waits mode) number client.state }
 
--- A client has asked for this change, behind this history: it is what its request's edit becomes over some image, and over that of the
+-- A client has asked for this change, after this history: it is what its request's edit becomes over some image, and over that of the
 -- history where the device is trusted.
 pub record HasAsked (trusted : Type 0) (image : Image) (history : List Change) (change : Change) (client : Client) : Type 0 where
   pub speaks : client.speaks ≡ true

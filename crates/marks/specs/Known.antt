@@ -5,7 +5,7 @@ use Rattle.image_model.specs.Change.{Change}
 use Rattle.marks.specs.Client.{nobody}
 use Rattle.marks.specs.declared.view.Client.{Client}
 
--- what is told: a beginning of the history, the number of its last change, and a number that is durable
+-- what is told: a prefix of the history, the number of its last change, and a number that is durable
 pub record Marks : Type 0 where
   pub history : List Change
   pub accepted : ℕ
@@ -17,8 +17,8 @@ pub record OrderKnows : Type 0 where
   pub accepted : ℕ
   pub base : ℕ
 
--- the keeper's seat knows a beginning of the history, the number of its last change, and as they are the durable number and the
--- number up to which the image has what was stored
+-- the keeper's seat knows a prefix of the history, the number of its last change, and the exact values of the durable number and of
+-- the base, up to which the image has all commands
 pub record KeeperKnows : Type 0 where
   pub history : List Change
   pub accepted : ℕ
@@ -35,8 +35,8 @@ pub record OwnCommands : Type 0 where
   pub count : ℕ
   pub last : Option Numbered
 
--- a pass: the beginning of the history that it has seen or was told, the number of its last change, the greatest durable number that
--- it has seen or was told, its own commands, and whose it is
+-- a pass: the prefix of the history that it has seen or was told, the number of that prefix's last change, the greatest durable number
+-- that it has seen or was told, its own commands, and its client
 pub record PassState : Type 0 where
   pub history : List Change
   pub accepted : ℕ

@@ -1,4 +1,4 @@
--- The rule of a board, which each step keeps: its three words, the history, what each seat knows of them, and the log, where one is
+-- The invariant of a board, which each step keeps: its three words, the history, what each seat knows of them, and the log, if one is
 -- kept. The third word is always 0: a step that changes no number is an exchange on it.
 use Rattle.std.specs.Prelude.{ℕ, ◌≡◌, ◌≤◌, ◌+◌, ◌<◌, true, false, None, List, [], ◌∷◌, length}
 use mathlib.Core.Option.{some}

@@ -52,7 +52,7 @@ impl<T: Trust> BlankBoard<T> {
         Ok(BlankBoard { table, seat })
     }
 
-    /// The board under its name, which is picked where this is called, with `passes` passes. Refusal 0 (no memory).
+    /// The board under the name that its caller picks, with `passes` passes. Refusal 0 (no memory).
     pub fn open<B: BoardName>(
         self,
         alloc: Global,

@@ -20,8 +20,8 @@ use nbd_wire::{Answer, Request};
 use std::alloc::{AllocError, Global};
 use std::marker::PhantomData;
 
-/// Two numbers that only grow: that of the last command accepted, and that of the last one durable, which is no greater. Behind
-/// them stands the history of all commands accepted, of which proofs alone keep the commands.
+/// Two watermarks that only grow: the number of the last command accepted, and of the last one durable, which is no greater. In the
+/// proofs alone it also has the history, the list of all commands accepted.
 ///
 /// No call waits, takes a lock or takes memory. Each is a few loads of a word; a number is raised by one atomic instruction.
 #[derive(Drop)]
@@ -34,7 +34,7 @@ pub struct Board<B: BoardName, T: Trust = NoLog> {
 }
 
 impl<B: BoardName, T: Trust> Board<B, T> {
-    /// The accepted number, which the pass knows from then on, and with it the history up to there.
+    /// The accepted number. The pass knows it from then on, with the history up to there.
     pub fn look_accepted(&self, pass: &mut Pass<B>) -> u64
         ensures known { known pass.old ≤ result }
         ensures seen { IsPrefix pass.old.history pass.new.history }
@@ -70,7 +70,7 @@ impl<B: BoardName, T: Trust> Board<B, T> {
         }
     }
 
-    /// The pass knows the greater of what it knew and what it is told, of each number, and the history up to there.
+    /// The pass learns what it is told: of each number it then knows the greater value, with the history up to there.
     pub fn learn(&self, pass: &mut Pass<B>, told: Told<B>)
         ensures seen { IsPrefix pass.old.history pass.new.history }
         ensures told { IsPrefix told.history pass.new.history }
@@ -82,7 +82,7 @@ impl<B: BoardName, T: Trust> Board<B, T> {
         self.take_in(&mut pass.seat);
     }
 
-    /// The order shows its number and all of the history to a pass: what the pass knew begins it.
+    /// The order shows its number and the whole history to a pass. What the pass knew is a prefix of it.
     pub fn show_accepted(&self, order: &mut OrderSeat<B>, pass: &mut Pass<B>) -> u64
         ensures number { result ≡ order.old.accepted }
         ensures place { result ≡ B.opening + length order.old.history }
@@ -96,8 +96,8 @@ impl<B: BoardName, T: Trust> Board<B, T> {
         shown
     }
 
-    /// The order shows its number and all of the history to a client that has sent a FLUSH, which then waits for that number, or is done in a
-    /// mode in which none waits: what the client's pass knew begins the history.
+    /// The order shows its number and the whole history to a client that has sent a FLUSH. The FLUSH then waits for that number, or is done
+    /// in a mode in which none waits. What the client's pass knew is a prefix of the history.
     pub fn await_accepted(&self, order: &mut OrderSeat<B>, pass: &mut Pass<B>) -> u64
         requires asked { T.logs → pass.old.client.speaks ≡ true → HasFlushed pass.old.client }
         ensures number { result ≡ order.old.accepted }
@@ -114,9 +114,9 @@ impl<B: BoardName, T: Trust> Board<B, T> {
         awaited
     }
 
-    /// The order accepts a command for a pass under the next number, and the accepted number is raised to it: the command is the
-    /// history's last, behind all that the pass knew. Where there is a log the pass is a client's that has asked for it, and then waits for
-    /// the number or is done. The command comes back: only proofs keep something of it.
+    /// The order accepts a command for a pass under the next number, and raises the accepted number to it. The command is then the last
+    /// of the history. If there is a log, the pass is of a client that has asked for the command, and then waits for the number or is
+    /// done. The command comes back, because only proofs keep it.
     pub fn raise_accepted(
         &self,
         order: &mut OrderSeat<B>,
@@ -145,7 +145,7 @@ impl<B: BoardName, T: Trust> Board<B, T> {
         (last + 1, command)
     }
 
-    /// A client sends a request, which comes back: that is the log's last event. Its pass knows then all that was accepted.
+    /// A client sends a request, which comes back. That is the log's last event, and its pass then knows all that was accepted.
     pub fn begin(&self, pass: &mut Pass<B>, request: Request) -> Request
         requires speaks { pass.old.client.speaks ≡ true }
         requires idle { pass.old.client.state ≡ Connection.Idle }
@@ -158,7 +158,7 @@ impl<B: BoardName, T: Trust> Board<B, T> {
         self.send(&mut pass.seat, request)
     }
 
-    /// A client is answered, as it may be, and the answer comes back: that is the log's last event.
+    /// A client gets an answer that it may be given, and the answer comes back. That is the log's last event.
     pub fn answer(&self, pass: &mut Pass<B>, outcome: Answer) -> Answer
         requires speaks { pass.old.client.speaks ≡ true }
         requires may { T.logs → MayAnswer T.trusted T.image pass.old.durable pass.old.history pass.old.client.state outcome }
@@ -168,7 +168,7 @@ impl<B: BoardName, T: Trust> Board<B, T> {
         self.reply(&mut pass.seat, outcome)
     }
 
-    /// A client more, which has sent nothing, with a pass that knows the number with which the board opened.
+    /// Makes a pass for a new client, which has sent nothing. The pass knows the number with which the board opened.
     pub fn enroll(&self, roster: &mut Roster<B>) -> Pass<B>
         ensures roster { roster.new ≡ record roster.old { made = roster.old.made + 1 } }
         ensures pass { result ≡ record (new_pass B.opening) { client = new_client roster.old.made } }
@@ -180,7 +180,7 @@ impl<B: BoardName, T: Trust> Board<B, T> {
         }
     }
 
-    /// A client is gone: the roster keeps what it sent and was answered.
+    /// Takes the pass of a client that is gone: the roster keeps what it sent and was answered.
     pub fn gather(&self, roster: &mut Roster<B>, pass: Pass<B>)
         requires speaks { pass.client.speaks ≡ true }
         ensures { roster.new ≡ record roster.old { calls = roster.old.calls ++ record { by = pass.client.by; events = pass.client.mine } ∷ [] } }
@@ -189,7 +189,7 @@ impl<B: BoardName, T: Trust> Board<B, T> {
         self.take_client(&mut roster.seat, seat);
     }
 
-    /// The end. Where there was a log, it is one log of all that clients sent and were answered, of just the history that the order has;
+    /// The end. If there was a log, it is one log of all that clients sent and were answered, it agrees with the order's history, and
     /// what it covers is durable.
     pub fn close(self, order: OrderSeat<B>, keeper: KeeperSeat<B>, roster: Roster<B>)
         ensures { T.logs → (durable : ℕ) × (keeper.durable ≡ B.opening + durable) × IsOneLog T.trusted T.mode T.image order.history durable roster }
@@ -210,8 +210,7 @@ impl<B: BoardName, T: Trust> Board<B, T> {
         closed.free();
     }
 
-    /// The order briefs the seat that raises the durable number, which then knows all that was accepted so far: what it knew
-    /// begins that.
+    /// The order tells the keeper's seat all that was accepted so far. What that seat knew is a prefix of it.
     pub fn brief(&self, order: &mut OrderSeat<B>, keeper: &mut KeeperSeat<B>)
         ensures same { order.new ≡ order.old }
         ensures seen { IsPrefix keeper.old.history order.old.history }
@@ -225,7 +224,7 @@ impl<B: BoardName, T: Trust> Board<B, T> {
         self.take_in(&mut keeper.seat);
     }
 
-    /// The history as it is, for the seat that raises the durable number to be told of.
+    /// The history as it is, to be told to the keeper's seat.
     pub fn note(&self, order: &mut OrderSeat<B>) -> Told<B>
         ensures same { order.new ≡ order.old }
         ensures told { (result.history ≡ order.old.history) × (result.accepted ≡ order.old.accepted) }
@@ -237,7 +236,7 @@ impl<B: BoardName, T: Trust> Board<B, T> {
         }
     }
 
-    /// The order compares what was told with the history: that begins it.
+    /// The order compares what was told with the history: it is a prefix.
     pub fn compare(&self, order: &mut OrderSeat<B>, told: Told<B>)
         ensures same { order.new ≡ order.old }
         ensures told { IsPrefix told.history order.old.history }
@@ -247,7 +246,7 @@ impl<B: BoardName, T: Trust> Board<B, T> {
         self.see_accepted(&mut order.seat);
     }
 
-    /// The seat that raises the durable number learns what is told of the history. No more was told to be durable than it has raised.
+    /// The keeper's seat learns what it is told of the history. Of the durable number it was told no more than it has raised.
     pub fn inform(&self, keeper: &mut KeeperSeat<B>, told: Told<B>)
         ensures seen { IsPrefix keeper.old.history keeper.new.history }
         ensures told { IsPrefix told.history keeper.new.history }

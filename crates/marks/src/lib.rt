@@ -1,11 +1,11 @@
 //! What threads know of the numbers of write commands: how many were accepted, and how many of those are durable.
 //!
-//! A board has two numbers that only grow. Who passes by looks at them without waiting, and what it has seen, and was told by
-//! others, it knows from then on. Behind the numbers stands the history of all commands accepted, which proofs alone keep: what
-//! one has seen and was told of it is a beginning of one history, whoever tells.
+//! A board has two watermarks that only grow, read without a lock. A pass knows from then on what it has read, and what it was
+//! told by other passes. In the proofs alone, the board also has the history, the list of all accepted commands: what any pass
+//! knows of it is a prefix of that one list.
 //!
-//! A board may keep a log beside the history, in proofs alone too: of clients, what each sends and is answered. A step of a client's is
-//! one on the board, so the log's order is that of these.
+//! Also in the proofs alone, a board may keep a log of what each client sends and is answered. Each such event is a step on the
+//! board, and the log is in the order of these steps.
 #![tactic(auto)]
 
 mod blank;

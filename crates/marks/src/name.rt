@@ -3,8 +3,8 @@ use std::marker::Brand;
 /// Which board it is, and with which number it opened: a board and its seats that meet in a call have one name.
 ///
 /// A program opens a board in a function that is generic over its name, with `BlankBoard::board` and `BlankBoard::opening` for it
-/// as premises. Who calls that function passes `Brand`, and says in the file of its invariants that the name's board and number
-/// are these.
+/// as premises. A caller of that function passes `Brand`, and says in the file of its invariants that the name's board and
+/// number are these.
 pub trait BoardName {
     ghost use Rattle.std.specs.Prelude.{ℕ};
     ghost use Rattle.atomic_table.specs.Seated.{TableId};
@@ -41,7 +41,7 @@ pub trait Trust {
     ghost image: { Image };
 }
 
-/// No log is kept: who calls for such a board owes nothing to one.
+/// No log is kept, and a caller with such a board owes nothing to one.
 pub struct NoLog;
 
 impl Trust for NoLog {

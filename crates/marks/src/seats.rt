@@ -4,7 +4,7 @@ use crate::view::View;
 use atomic_table::Seat;
 use std::marker::{Model, PhantomData};
 
-/// The seat that raises the accepted number: there is one. It knows all of the history, and a base.
+/// The only seat that raises the accepted number. It knows the whole history, and a base.
 #[derive(Drop)]
 pub struct OrderSeat<B: BoardName> {
     pub(crate) seat: Seat<Said, View>,
@@ -22,7 +22,7 @@ impl<B: BoardName> Model for OrderSeat<B> {
     ghost invariant = { λ order. IsOrderSeat B.board B.opening order.seat };
 }
 
-/// The seat that raises the durable number and the base, which it knows: there is one. It knows a beginning of the history too.
+/// The only seat that raises the durable number and the base, which it knows. It also knows a prefix of the history.
 #[derive(Drop)]
 pub struct KeeperSeat<B: BoardName> {
     pub(crate) seat: Seat<Said, View>,
@@ -40,8 +40,8 @@ impl<B: BoardName> Model for KeeperSeat<B> {
     ghost invariant = { λ keeper. IsKeeperSeat B.board B.opening keeper.seat };
 }
 
-/// What one who passes by the board knows of it, and the last number accepted for it with that command. It may be a client's: then it
-/// knows what that sent and was answered, and what it is at. It has no bytes.
+/// What a connection knows of the board, and the last number accepted for it with that command. If it is a client's, it also knows what
+/// the client sent and was answered, and its state. It has no bytes.
 #[derive(Drop)]
 pub struct Pass<B: BoardName> {
     pub(crate) seat: Seat<Said, View>,
@@ -59,7 +59,7 @@ impl<B: BoardName> Model for Pass<B> {
     ghost invariant = { λ pass. IsPass B.board B.opening pass.seat };
 }
 
-/// What a seat knew of the history and of the durable number as it told of them. It has no bytes.
+/// What a seat knew of the history and of the durable number when it was asked, for another seat to learn. It has no bytes.
 #[derive(Drop)]
 pub struct Told<B: BoardName> {
     pub(crate) seat: Seat<Said, View>,
@@ -77,7 +77,7 @@ impl<B: BoardName> Model for Told<B> {
     ghost invariant = { λ told. IsTold B.board B.opening told.seat };
 }
 
-/// The right to make clients: there is one. It knows what those that are gone sent and were answered. It has no bytes.
+/// The only right to make clients. It knows what clients that are gone sent and were answered. It has no bytes.
 #[derive(Drop)]
 pub struct Roster<B: BoardName> {
     pub(crate) seat: Seat<Said, View>,

@@ -13,7 +13,7 @@ struct Members {
     map: Map<String, Value>,
 }
 
-// What stands behind a family's name: its unit, where it has one.
+// What stands after a family's name: its unit, where it has one.
 fn suffix(unit: Unit) -> &'static str {
     match unit {
         Unit::One => "",

@@ -40,7 +40,7 @@ impl Display for Quoted<'_> {
     }
 }
 
-// What stands behind a family's name.
+// What stands after a family's name.
 fn suffix(family: &Family<'_>) -> &'static str {
     match (family.unit, family.kind) {
         (Unit::One, Kind::Gauge) => "",

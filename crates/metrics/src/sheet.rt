@@ -27,7 +27,7 @@ pub struct Family<'a> {
     pub unit: Unit,
 }
 
-/// Where figures are written down.
+/// Takes figures, in one format.
 pub trait Sheet {
     /// Writes a figure.
     fn figure(&mut self, family: Family<'_>, value: u64) -> Result<(), AllocError>;

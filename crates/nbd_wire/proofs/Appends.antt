@@ -15,7 +15,7 @@ pub on_err : {T E : Type 0} (r : Result T E) (P : Type 0) → P → OnErr r P
 on_err (Ok x) P p = tt
 on_err (Err e) P p = p
 
--- there is no room for so many bytes, nor for a text of this length
+-- there is no room for this many bytes, nor for a text of this length
 pub no_room : {T E : Type 0} (r : Result T E) (capacity len n : ℕ) (text : List ℕ) → capacity < len + n → n ≡ length text → OnErr r (capacity < len + length text)
 no_room r capacity len n text full same = on_err r (capacity < len + length text) (omega (arith, full, same))
 

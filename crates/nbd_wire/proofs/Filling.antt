@@ -9,12 +9,12 @@ use Rattle.nbd_wire.specs.Stream.{Feeds, Fills, in_data, reading}
 use Rattle.nbd_wire.specs.inner.State.{Advances, IsReadBehind}
 use Rattle.nbd_wire.specs.laws.Streams.{Feeds-advances}
 
--- what was there stays in front of its room
+-- what was there stays before its room
 pub kept_front : (before now zeroes : List ℕ) (len most : ℕ) → len ≡ length before → length before ≤ most → now ≡ take most before ++ zeroes → take len now ≡ before
 kept_front before now zeroes len most is within same =
     ap (take len) (same ∙ ap (λ (t : List ℕ). t ++ zeroes) (take_all most before within)) ∙ ap (λ (n : ℕ). take n (before ++ zeroes)) is ∙ take-append_seam before zeroes
 
--- what was read stands behind what was there; the room behind it is let go
+-- what was read stands after what was there; the room after it is let go
 pub cut_behind : (front before buf post rest : List ℕ) (len count most : ℕ) → front ≡ before → len ≡ length before → count ≤ length buf → len + length buf ≤ most
     → take (len + count) (take most ((front ++ (buf ++ post)) ++ rest)) ≡ before ++ take count buf
 cut_behind front before buf post rest len count most same is within room =

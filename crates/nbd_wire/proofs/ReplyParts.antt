@@ -61,7 +61,7 @@ length-parts cookie offset (run ∷ runs) bytes parts =
       length-append (chunk_bytes (is_last chunks) cookie (part_chunk offset run bytes)) (chunks_bytes cookie chunks),
     )
 
--- all that is taken, where nothing is left behind it
+-- all that is taken, where nothing is left after it
 take_whole : (size : ℕ) (bytes : List ℕ) → drop size bytes ≡ [] → take size bytes ≡ bytes
 take_whole size bytes none =
     sym (append-nil (take size bytes)) ∙ ap (λ (rest : List ℕ). take size bytes ++ rest) (sym none) ∙ take-append-drop size bytes

@@ -36,7 +36,7 @@ PartsBytes (run ∷ runs) bytes =
     (0 < run.length) × (run.length ≤ length bytes) × IsInState run.status (take run.length bytes)
     × PartsBytes runs (drop run.length bytes)
 
--- a run of this status, and those behind it, aren't one run
+-- a run of this status, and those after it, aren't one run
 abbrev pub DiffersFrom : ℕ → List Run → Type 0
 DiffersFrom status [] = Unit {0}
 DiffersFrom status (next ∷ runs) = status ≢ next.status
@@ -46,7 +46,7 @@ abbrev pub IsJoined : List Run → Type 0
 IsJoined [] = Unit {0}
 IsJoined (run ∷ runs) = DiffersFrom run.status runs × IsJoined runs
 
--- so many runs are answered
+-- this many runs are answered
 abbrev pub IsAnswerable : List Run → Type 0
 IsAnswerable runs = (0 < length runs) × (length runs ≤ run_limit)
 

@@ -9,7 +9,7 @@ use Rattle.nbd_wire.specs.declared.message.Run.{Run}
 pub data Chunk : Type 0 where
   -- the bytes from an offset on are data, these
   offset_data : (offset : ℕ) (bytes : List ℕ) → Chunk
-  -- so many bytes from an offset on are a hole, and read as zero
+  -- this many bytes from an offset on are a hole, and read as zero
   offset_hole : (offset size : ℕ) → Chunk
   -- the states of the bytes that were asked for, from the first on
   block_status : (runs : List Run) → Chunk
@@ -25,7 +25,7 @@ chunk_type (error number) = 0x8001
 abbrev pub run_bytes : Run → List ℕ
 run_bytes run = to_be_bytes w32 run.length ++ to_be_bytes w32 run.status
 
--- what stands behind the head: states are those of the context with id 1, and an error has an empty message
+-- what stands after the head: states are those of the context with id 1, and an error has an empty message
 abbrev pub payload : Chunk → List ℕ
 payload (offset_data offset bytes) = to_be_bytes w64 offset ++ bytes
 payload (offset_hole offset size) = to_be_bytes w64 offset ++ to_be_bytes w32 size

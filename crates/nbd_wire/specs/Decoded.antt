@@ -20,7 +20,7 @@ FitsChunk (block_status runs) =
     AllByRecursion (λ run. (run.length < 2 ^ 32) × (run.status < 2 ^ 32)) runs × (length (payload (block_status runs)) < 2 ^ 32)
 FitsChunk (error number) = number < 2 ^ 32
 
--- These chunks tell the bytes from here on, and the runs that they are in: one behind the other, without a gap.
+-- These chunks tell the bytes from here on, and the runs that they are in: one after the other, without a gap.
 abbrev pub TellsBytes : ℕ → List Chunk → List ℕ → List Run → Type 0
 TellsBytes at [] bytes runs = (bytes ≡ []) × (runs ≡ [])
 TellsBytes at (offset_data offset part ∷ chunks) bytes runs =

@@ -18,7 +18,7 @@ pub record Message : Type 0 where
   pub head : RequestHead
   pub bytes : List ℕ
 
--- how many bytes of data follow a head: a WRITE's length, and none behind any other
+-- how many bytes of data follow a head: a WRITE's length, and none after any other
 abbrev pub data_len : RequestHead → ℕ
 data_len head = if head.kind == write_type then head.length else 0
 

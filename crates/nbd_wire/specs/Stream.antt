@@ -11,7 +11,7 @@ use Rattle.nbd_wire.specs.declared.head.RequestHead.{RequestHead}
 use Rattle.nbd_wire.specs.Head.{request_magic, head_bytes, IsHead}
 use Rattle.nbd_wire.specs.Request.{write_type, payload_limit, stream_limit, Message, IsRequest}
 
--- what is left of a stream behind its last whole request
+-- what is left of a stream after its last whole request
 pub data Kept : Type 0 where
   -- the first bytes of a head
   in_head : (bytes : List ℕ) → Kept
@@ -19,7 +19,7 @@ pub data Kept : Type 0 where
   in_data : (head : RequestHead) (bytes : List ℕ) → Kept
   -- the head of a WRITE whose data are thrown away, and how many of them are still to come
   in_discard : (head : RequestHead) (missing : ℕ) → Kept
-  -- no request stands here or behind
+  -- no request stands here or after
   failed : (fault : RequestFault) → Kept
 
 -- the fault stands in a request's place
@@ -78,7 +78,7 @@ abbrev pub ReadsOn : Kept → List ℕ → List Message → Kept → Type 0
 ReadsOn old piece requests new =
     (stream : List ℕ) (before : List Message) → Reads stream before old → Reads (stream ++ piece) (before ++ requests) new
 
--- A call that is fed the piece finds these requests. Memory may run out behind any first part of the piece: the requests are
+-- A call that is fed the piece finds these requests. Memory may run out after any first part of the piece: the requests are
 -- those that are whole in it.
 abbrev pub Feeds : Reader → List ℕ → List Message → Reader → Type 0
 Feeds (reading old) piece requests (reading new) = ReadsOn old piece requests new
@@ -123,7 +123,7 @@ room_of (reading (in_discard head missing)) = 0
 room_of (reading (failed fault)) = 0
 room_of starved = 0
 
--- So many bytes were read off a stream as a piece that was fed; it ends no request. None comes only at the end of the stream.
+-- This many bytes were read off a stream as a piece that was fed; it ends no request. None comes only at the end of the stream.
 pub record Fills (old : Reader) (input left : Option (List ℕ)) (count : ℕ) (new : Reader) : Type 0 where
   pub piece : List ℕ
   pub len : length piece ≡ count

@@ -59,7 +59,7 @@ pub fn put(out: &mut Vec<u8>, bytes: &[u8])
     out.extend_from_slice(bytes).unwrap();
 }
 
-/// Appends what stands before so many data in their chunk, for which there is room.
+/// Appends the head of a chunk with `size` bytes of data, for which there is room.
 pub fn put_data_head(out: &mut Vec<u8>, done: bool, cookie: u64, offset: u64, size: usize)
     requires room { vec_len out.old + DATA_HEAD_LEN ≤ vec_capacity out.old }
     requires fits { 8 + size < 2 ^ 32 }

@@ -17,9 +17,9 @@ pub struct RequestHead {
     pub kind: u16,
     /// What the client calls the request; its reply carries it again.
     pub cookie: u64,
-    /// Where the range begins, in bytes.
+    /// The start of the range, in bytes.
     pub offset: u64,
-    /// How long the range is, in bytes; as many bytes of data follow a WRITE's head.
+    /// The length of the range, in bytes; as many bytes of data follow a WRITE's head.
     pub length: u32,
 }
 
@@ -60,7 +60,7 @@ pub fn encode_request(head: &RequestHead) -> [u8; 28]
     bytes
 }
 
-/// Writes a simple reply ("Simple reply message" of NBD's `proto.md`), with `error` 0 for success. Behind the
+/// Writes a simple reply ("Simple reply message" of NBD's `proto.md`), with `error` 0 for success. After the
 /// one to a READ that succeeded the data follow.
 pub fn encode_simple(error: u32, cookie: u64) -> [u8; 16]
     ensures { (bytes : List ℕ) → result ++ bytes ≡ simple_reply error cookie bytes }

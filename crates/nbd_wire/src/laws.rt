@@ -1,4 +1,4 @@
-//! What holds of requests, of streams and of replies, whoever reads or writes them.
+//! Laws of requests, of streams and of replies.
 ghost use Rattle.nbd_wire.specs.Decoded.{OneReply, OneSpelling, ReadsBack};
 ghost use Rattle.nbd_wire.specs.Head.{OneHead};
 ghost use Rattle.nbd_wire.specs.Request.{OneRequest};
@@ -15,7 +15,7 @@ pub fn one_request()
 {}
 
 /// Two readings of one stream are one: however it is cut, its requests are the same, and so is what is left
-/// behind them, which begins with no whole request. The first requests of a stream begin all of them.
+/// after them, which begins with no whole request. The first requests of a stream begin all of them.
 pub fn one_reading()
     ensures one { OneReading }
     ensures rest { NoRequest }
@@ -23,7 +23,7 @@ pub fn one_reading()
 {}
 
 /// In whatever pieces a stream was fed, the requests that a new reader handed out are those of the whole
-/// stream, and another reader of the same stream handed out the same. Where memory ran out they are the first
+/// stream, and another reader of the same stream handed out the same. If memory ran out, they are the first
 /// requests of the stream.
 pub fn any_pieces()
     ensures whole { WholeStream }

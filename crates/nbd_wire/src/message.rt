@@ -13,7 +13,7 @@ pub const DATA: u32 = 0;
 pub const HOLE: u32 = 3;
 
 /// A request with the data that follow its head on the stream: a WRITE's data, of as many bytes as its head
-/// says; none behind another request, and none where the data were too long to be kept.
+/// says; none after another request, and none where the data were too long to be kept.
 #[derive(Drop)]
 pub struct Request {
     head: RequestHead,
@@ -163,7 +163,7 @@ impl ReadBytes {
         })
     }
 
-    /// Where the first byte lies in the export.
+    /// The place of the first byte in the export.
     pub fn offset(&self) -> u64
         ensures { result ≡ self.now.offset }
     {
@@ -256,7 +256,7 @@ impl States {
     }
 }
 
-/// So many bytes, one after the other, that are in one state.
+/// Bytes one after another that are in one state.
 #[derive(Clone, Copy, PartialEq, Eq)]
 pub struct Run {
     /// In bytes.

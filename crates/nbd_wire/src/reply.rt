@@ -19,7 +19,7 @@ use std::alloc::AllocError;
 // The length of a simple reply, before the bytes of a READ.
 const SIMPLE_LEN: usize = 16;
 
-// So many data are worth a write of their own, which spares a copy of them.
+// This many data are worth a write of their own, which spares a copy of them.
 const LEAST_APART: usize = 65_536;
 
 /// Appends the reply to a request of this type, which asked for its bytes in one chunk where `df`: in chunks to

@@ -16,7 +16,7 @@ use std::marker::Model;
 
 /// The most bytes of data that a WRITE is handed on with: 1 MiB.
 pub const MAX_PAYLOAD: u32 = 1_048_576;
-/// The most bytes of data that are read behind a WRITE's head: 32 MiB.
+/// The most bytes of data that are read after a WRITE's head: 32 MiB.
 pub const MAX_THROWN_AWAY: u32 = 33_554_432;
 
 const HEAD_LEN: usize = 28;
@@ -74,7 +74,7 @@ impl StreamReader {
     /// [`MAX_PAYLOAD`] are thrown away as they come.
     ///
     /// Refusals 0 (no memory), 3 (bad magic) and 4 (too long: a WRITE longer than [`MAX_THROWN_AWAY`]). Each
-    /// stands behind the requests that came before it, and then for good: what memory ran out for is lost.
+    /// comes after the requests before it, and all later calls give it too: what memory ran out for is lost.
     pub fn feed(&mut self, piece: &[u8]) -> Result<Vec<Request>, WireFault>
         // However the stream was cut, these are its next requests, up to its first fault.
         ensures stream { Feeds self.old piece.now (answered result) self.new }
@@ -110,7 +110,7 @@ impl StreamReader {
     }
 
     /// Reads once from the stream, straight into the room of the data at hand, 64 KiB of them at most. Their last byte is
-    /// left to a piece, so that no request is whole behind it. A fault of the stream leaves the reader as it was.
+    /// left to a piece, so that no request is whole after it. A fault of the stream leaves the reader as it was.
     pub fn fill<R: Read>(&mut self, input: &mut R) -> io::Result<usize>
         requires { 1 < room_of self.old }
 
@@ -156,7 +156,7 @@ fn answer(state: &Option<State>, requests: Vec<Request>) -> Result<Vec<Request>,
     }
 }
 
-// Reads all of the piece, but where memory runs out. Behind a fault the requests are those before it.
+// Reads all of the piece, but where memory runs out. After a fault the requests are those before it.
 fn read_all(alloc: Global, state: State, piece: &[u8]) -> (Option<State>, Vec<Request>)
     requires { IsState state }
     ensures sound { IsReader result.0 }
@@ -319,7 +319,7 @@ fn fill<R: Read>(state: State, input: &mut R) -> (State, io::Result<usize>)
     }
 }
 
-// Reads once, up to so many bytes, behind bytes that have the room for them.
+// Reads once, up to this many bytes, after bytes that have the room for them.
 fn read_behind<R: Read>(
     input: &mut R,
     mut bytes: Vec<u8>,

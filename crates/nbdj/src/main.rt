@@ -123,7 +123,7 @@ where
     Ok(1)
 }
 
-// Tells that a call of the device takes too long. A thread does it, so that the end doesn't wait for who reads it.
+// Tells that a call of the device takes too long. A thread does it, so that the end doesn't wait for a reader.
 fn tell_late<R>(
     rt: &HostRuntime,
     threads: &R,
@@ -164,7 +164,7 @@ where
         Ok(invocation) => Ok(run(rt, threads, invocation, watch)),
         Err(fault) if fault.kind() == ErrorKind::OutOfMemory => Ok(no_memory(rt)),
         Err(fault) => {
-            // Where not even that can be written, the status alone tells.
+            // If not even that can be written, the status alone tells.
             let _ = fault.print(rt);
             Ok(if fault.use_stderr() { 2 } else { 0 })
         }
@@ -323,7 +323,7 @@ where
         Ok(guard) => guard,
         Err(fault) => return no_file(rt, teller, path, fault),
     };
-    // Where the system has no second handle left reads wait for the first one.
+    // If the system has no second handle left reads wait for the first one.
     let beside = opened.file.try_clone().ok();
     let (disk, _locks) = disk_of(rt, teller, opened, path);
     serve_at(
@@ -379,7 +379,7 @@ const IN_USE: u8 = 4;
 // Tells why there is no file to work on, and gives the exit status.
 fn no_file(rt: &HostRuntime, teller: Teller, path: &str, fault: FileFault) -> u8 {
     teller.tell_fault(path, &fault);
-    // Where not even that can be written, the status alone tells.
+    // If not even that can be written, the status alone tells.
     let _ = match fault {
         FileFault::Unopened(_) | FileFault::Unfit | FileFault::Short => eprintln!(rt;
             "nbdj: cannot open {path}"

@@ -1,4 +1,4 @@
-//! What `serve` tells on standard error while it works. A thread of its own writes it, so that nobody waits for who reads it.
+//! What `serve` tells on standard error while it works. A thread of its own writes it, so that no other thread waits for a reader.
 
 use crate::lock_guard::LockGuard;
 use crate::meter::micros_of;
@@ -195,7 +195,7 @@ impl LogLines {
             mem::swap(&mut lines.waiting, &mut taken);
             lines.is_writing = true;
             drop(lines);
-            // Where it can't be written nobody listens.
+            // If it can't be written nobody listens.
             let _ = errors.write_all(&taken);
             taken.clear();
         }
@@ -209,7 +209,7 @@ pub struct ServerLog<'a, R> {
     lines: &'a LogLines,
     path: &'a str,
     is_verbose: bool,
-    // Where figures are told; they are counted only then.
+    // The socket at which figures are told; they are counted only if there is one.
     status: Option<&'a StatusSocket<'a>>,
 }
 
@@ -243,7 +243,7 @@ impl<'a, R: Wait + Clock> ServerLog<'a, R> {
         self.rt
     }
 
-    /// Where figures are told, if they are.
+    /// The socket at which figures are told, if they are.
     pub fn status(&self) -> Option<&'a StatusSocket<'a>> {
         self.status
     }
@@ -258,8 +258,8 @@ impl<'a, R: Wait + Clock> ServerLog<'a, R> {
         self.is_verbose
     }
 
-    /// Tells a line, and never waits for who reads it. One that comes too early behind another one of its topic, or for which there is
-    /// no room, is left out, and counted.
+    /// Tells a line, and never waits for a reader. A line that comes too soon after another one of its topic, or for which there is no
+    /// room, is left out, and counted.
     pub fn tell<T: Display + Drop>(&self, topic: Topic, text: T) {
         if !self.is_verbose && !topic.is_urgent() {
             return;
@@ -504,7 +504,7 @@ fn way_out(end: Result<(), End>) -> &'static str {
     }
 }
 
-// Seconds with three digits behind the point.
+// Seconds with three digits after the point.
 #[derive(Drop)]
 pub struct Seconds(pub Duration);
 

@@ -292,7 +292,7 @@ fn listen<R: Threads + Wait + Clock + Copy + Send + Sync + Drop + 'static>(
         Err(refusal) => Err(refusal),
     };
     for file in files {
-        // Where it can't be removed, the next server replaces it.
+        // If it can't be removed, the next server replaces it.
         let _ = fs::remove_file(rt, file);
     }
     outcome
@@ -348,7 +348,7 @@ impl<'a> Made<'a> {
         Ok(())
     }
 
-    // Has the name told behind the addresses if nobody can know it.
+    // Has the name told after the addresses if nobody can know it.
     fn tell_name(&mut self, name: &Name) -> Result<(), Refusal> {
         if name.is_fresh && writeln!(self.said, "export {}", name.text).is_err() {
             return Err(Refusal::NoMemory);

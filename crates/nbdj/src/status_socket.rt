@@ -80,7 +80,7 @@ impl<'a> StatusSocket<'a> {
     /// Ends all answers.
     pub fn end(&self) {
         self.is_ended.store(true, Ordering::SeqCst);
-        // Where it fails nobody waits there.
+        // If it fails nobody waits there.
         let _ = self.wake.shutdown(Shutdown::Both);
     }
 

@@ -40,7 +40,7 @@ impl Teller {
     /// Tells why something can't be done with a subject, as a path or an address.
     pub fn tell<S: Display + Drop, T: Display + Drop>(&self, subject: S, text: T) {
         if self.tells_causes {
-            // Where it can't be written nobody listens.
+            // If it can't be written nobody listens.
             let _ = eprintln!(self.rt; "nbdj: {subject}: {text}");
         }
     }
@@ -61,7 +61,7 @@ impl Teller {
 
     /// Tells that the lock of a file is waited for. Nobody else would tell why nothing happens.
     pub fn tell_wait(&self, path: &str) {
-        // Where it can't be written nobody listens.
+        // If it can't be written nobody listens.
         let _ = eprintln!(self.rt; "nbdj: {path}: another process has locked it; waiting for it");
     }
 

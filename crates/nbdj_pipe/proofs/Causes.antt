@@ -49,7 +49,7 @@ early_of PeerClosed is = absurd is
 early_of ProtocolEnd is = absurd is
 early_of StreamFault is = absurd is
 
--- one run behind another
+-- one run after another
 run_on : (first mid last : World) (before behind : List Step) → IsRun first before mid → IsRun mid behind last → IsRun first (before ++ behind) last
 run_on first mid last [] behind is on = subst (λ (w : World). IsRun w behind last) is on
 run_on first mid last (step ∷ before) behind run on = (run.0, run_on (after_step first step run.0) mid last before behind run.1 on)

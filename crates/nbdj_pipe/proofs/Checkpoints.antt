@@ -329,7 +329,7 @@ pub all_shown : (first one two last : World) (before : List Step) (outcome : Res
 all_shown first one two last before (Ok done) run few stays stays_on to on is = all_finished first one two last few stays stays_on to on is
 all_shown first one two last before (Err refusal) run few stays stays_on to on is = cause_behind refusal first two last before run is
 
--- the last area in use is empty, and all that was stored is in front of it
+-- the last area in use is empty, and all that was stored is before it
 record HasRotated (old new : Stage) : Type 0 where
   keeps : KeepsOrder old new
   at : new.at ≡ 0
@@ -353,7 +353,7 @@ late_rotate world within one late =
     let last = ap (last_turned world.stage.base) one in
     record { keeps = record { order = refl; sealed = refl; stored = refl; durable = refl }; at = within.taken.1 (same ∙ sym last); last = last ∙ sym same }
 
--- a whole checkpoint: one that had begun is finished, all that is stored is in front of an empty area, and then in map and data
+-- a whole checkpoint: one that had begun is finished, all that is stored is before an empty area, and then in map and data
 module _ (first done : World) (to : Failure) (within : IsWithin done) (was : OrStopped IsFinished first done) (last : World) (is : OrStopped IsFinished (rotate to done) last) where
   abbrev pub turned : World
   turned = rotate to done
@@ -433,7 +433,7 @@ empty_takes world failure empty level = of_test (λ (w : World). HasFullArea w �
     more DeviceFailure full = too_large full.full
     more (Misread given image) full = too_large full.full
 
--- a write of so many blocks makes so many dirty at most
+-- a write of this many blocks makes this many dirty at most
 len_with : (dirty : Dirty) (number first count : ℕ) → len (with_blocks dirty number first count) ≤ len dirty + count
 unfolding with_blocks
 len_with dirty number first zero = omega arith
@@ -514,7 +514,7 @@ module _ (frames : ℕ) (dirty : Dirty) (number waiting : ℕ) (enough : 512 ≤
           (λ some. cleared_room (first_spanned offset) (end_spanned offset count - first_spanned offset) Hole)
           (λ none. cleared_room (offset / 4096) 0 Hole)
 
--- so it is behind a checkpoint of all that was ordered
+-- so it is after a checkpoint of all that was ordered
 pub emptied_has_room : (first world : World) (request : Message) → IsWithin first → IsEmptied first.stage world.stage → first.stage.durable ≡ length first.stage.order → length request.bytes ≤ 1048576 → 512 ≤ world.stage.setting.frames
     → LacksRoom world request → ⊥
 emptied_has_room first world request within emptied durable few frames lacks =

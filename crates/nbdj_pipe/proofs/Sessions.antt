@@ -147,7 +147,7 @@ module _ (run : Run) (same : (fault : WireFault) → run [] None (Err (of_wire f
       subst (λ (r : Refusal). Takes old piece new before before (Err r) run) (sym same_refusal) (takes_known_fault fault is)
   takes_fault fault (Ok flow) is same_refusal = elim same_refusal [ ]
 
--- what a call of a reader handed out goes behind what it had handed out before
+-- what a call of a reader handed out goes after what it had handed out before
 pub feeds_on : (old : Reader) (piece : List ℕ) (requests : List Message) (new : Reader) → Feeds old piece requests new → TakesOn old piece requests new
 feeds_on (reading old) piece requests (reading new) feeds stream before reads = feeds stream before reads
 feeds_on (reading old) piece requests starved (first, rest, between, parts, on) stream before reads = record {
@@ -194,7 +194,7 @@ none_behind : (front back : List Message) → length front ≡ length (front ++ 
 none_behind front [] is = refl
 none_behind front (x ∷ back) is = absurd (omega (arith, is, length-append front (x ∷ back)))
 
--- a reader that is fed nothing hands out nothing, since a stream has one reading
+-- a reader that is fed nothing hands out nothing, because a stream has one reading
 module _ (one : OneReading) (begins : FirstRequests) where
   nothing_more : (mid new : Reader) (stream : List ℕ) (before requests : List Message) → IsOpen mid → ReadsTo stream before mid → ReadsTo (stream ++ []) (before ++ requests) new → requests ≡ []
   nothing_more starved new stream before requests is_open reads more = absurd (ended is_open)

@@ -50,7 +50,7 @@ pub record IsToDisc (told : Conversation) : Type 0 where
   pub last : told.last ≡ Some disc
   pub text : told.text ≡ dialog told.exchanges
 
--- What a reader was handed out of a stream: all of its requests, with what is left behind them, or where memory ran out
+-- What a reader was handed out of a stream: all of its requests, with what is left after them, or where memory ran out
 -- the first of them.
 abbrev pub ReadsTo : List ℕ → List Message → Reader → Type 0
 ReadsTo stream requests (reading kept) = Reads stream requests kept

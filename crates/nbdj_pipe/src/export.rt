@@ -53,7 +53,7 @@ fn stored(sealed: &Event, appended: &Event, published: &Event) -> Result<bool, R
     }
 }
 
-// Whether a checkpoint goes on behind a step with this event.
+// Whether a checkpoint goes on after a step with this event.
 fn turned(event: &Event) -> Result<(), Refusal>
     ensures { EndsBy event.now result }
 {
@@ -77,7 +77,7 @@ fn few_bytes(request: &Request)
     request.bytes();
 }
 
-/// An export with one connection, which is served step by step. It is spent by `into_disk`, since a group may be in
+/// An export with one connection, which is served step by step. It is spent by `into_disk`, because a group may be in
 /// hand.
 pub(crate) struct Export<B: BoardName, D: Disk> {
     pub(crate) alloc: Global,
@@ -216,7 +216,7 @@ impl<B: BoardName, D: Disk> Export<B, D> {
         self.turn(Step::Finish)
     }
 
-    // Carries the checkpoints that have begun to their end: at most three areas stand in front of the last.
+    // Carries the checkpoints that have begun to their end: at most three areas stand before the last.
     fn finish_checkpoint(&mut self) -> Result<(), Refusal>
         requires group { IfSome self.old.connections.group (IsInHand self.old.order) }
         ensures group { IfSome self.new.connections.group (IsInHand self.new.order) }
@@ -258,7 +258,7 @@ impl<B: BoardName, D: Disk> Export<B, D> {
     }
 
     // Stores the next group, the one in hand or the longest beginning of what is pending, where it fits the area; whether it
-    // does. Where the device fails the order is stopped.
+    // does. If the device fails the order is stopped.
     fn store_group(&mut self) -> Result<bool, Refusal>
         requires group { IfSome self.old.connections.group (IsInHand self.old.order) }
         requires pending { IsSettled self.old.order → ⊥ }
@@ -367,7 +367,7 @@ impl<B: BoardName, D: Disk> Export<B, D> {
         true
     }
 
-    // Serves the request that was sent where all is stored. Where there is no room for its command it is served once more after
+    // Serves the request that was sent where all is stored. If there is no room for its command it is served once more after
     // a checkpoint.
     fn serve_stored(&mut self) -> Result<(), Refusal>
         requires settled { IsSettled self.old.order }
@@ -396,7 +396,7 @@ impl<B: BoardName, D: Disk> Export<B, D> {
         Err(Refusal::Failed)
     }
 
-    // Serves the request that was sent. Where there is no room for its command what is pending is stored first.
+    // Serves the request that was sent. If there is no room for its command what is pending is stored first.
     fn serve_sent(&mut self) -> Result<(), Refusal>
         requires group { IfSome self.old.connections.group (IsInHand self.old.order) }
         ensures group { IfSome self.new.connections.group (IsInHand self.new.order) }

@@ -91,7 +91,7 @@ pub fn exit_status<E: Write>(outcome: Result<(), Refusal>, errors: &mut E) -> u8
     match outcome {
         Ok(()) => 0,
         Err(refusal) => {
-            // Where not even that can be written, the status alone tells.
+            // If not even that can be written, the status alone tells.
             let _ = tell(refusal, errors);
             1
         }

@@ -40,7 +40,7 @@ use std::alloc::{AllocError, Global};
 use std::io::{Read, Write};
 use std::marker::Brand;
 
-// The most bytes that one read takes, and the most of them behind the data at hand: 8 heads of requests. The replies to as many
+// The most bytes that one read takes, and the most of them after the data at hand: 8 heads of requests. The replies to as many
 // READs of 1 MiB still lie in a cache when they are written.
 const PIECE_BYTES: usize = 65_536;
 
@@ -66,9 +66,9 @@ pub fn pipe<D: Disk, R: Read, W: Write>(
     ensures extent { D.extent result.1 ≡ D.extent disk }
     ensures honest { D.honest result.1 ↔ D.honest disk }
 
-    // Where the opening is refused nothing is read or written. Else what is written are the
-    // simple replies to the requests read, one to each up to the first end of the stream; after an early refusal it may be
-    // the first bytes of such replies. The answers are those of a run of the world, in which these requests were sent.
+    // If the opening is refused nothing is read or written. Otherwise the simple replies to the requests read are written,
+    // one to each up to the first end of the stream, or after an early refusal perhaps only the first bytes of these. The
+    // answers are those of a run of the world, in which these requests were sent.
     ensures dialog { IsUnopened D.state D.faults D.honest disk result.1 (R.remaining input.old) (R.remaining input.new) (W.contents output.old) (W.contents output.new) result.0
         ⊎ IsPiped (R.remaining input.old) (R.remaining input.new) (W.contents output.old) (W.contents output.new) result.0
         (IsLived D.state D.faults D.honest options.frames options.mode disk result.1) }
@@ -213,7 +213,7 @@ impl<B: BoardName, D: Disk> Session<B, D> {
         Err(Refusal::StreamFault)
     }
 
-    // Serves the requests that are whole with this piece of the input. A fault behind them ends the session before more
+    // Serves the requests that are whole with this piece of the input. A fault after them ends the session before more
     // input is waited for.
     fn take(&mut self, reader: &mut StreamReader, piece: &[u8]) -> Result<Flow, Refusal>
         requires group { IfSome self.old.export.connections.group (IsInHand self.old.export.order) }
@@ -256,7 +256,7 @@ impl<B: BoardName, D: Disk> Session<B, D> {
         Ok(Flow::Open)
     }
 
-    // Serves a request, and puts its reply behind those that are due.
+    // Serves a request, and puts its reply after those that are due.
     fn serve(&mut self, request: Request) -> Result<Flow, Refusal>
         requires group { IfSome self.old.export.connections.group (IsInHand self.old.export.order) }
         ensures group { IfSome self.new.export.connections.group (IsInHand self.new.export.order) }
@@ -287,7 +287,7 @@ impl<B: BoardName, D: Disk> Session<B, D> {
         written
     }
 
-    // Stores what is pending. A fault of the device is told in place of an orderly end, since what was answered may be lost,
+    // Stores what is pending. A fault of the device is told in place of an orderly end, because what was answered may be lost,
     // and what kept commands from being stored in place of that or of a fault of the streams; another early end was told
     // for a reason of its own.
     fn finish(&mut self, end: Result<(), Refusal>) -> Result<(), Refusal>
@@ -362,7 +362,7 @@ fn data(answer: &Answer) -> &[u8]
     }
 }
 
-// Reads what there is, but no more behind the data at hand than the heads of some requests: all of them are answered before
+// Reads what there is, but no more after the data at hand than the heads of some requests: all of them are answered before
 // the replies are written, and a READ has up to 1 MiB of them.
 fn read_piece<R: Read>(
     reader: &StreamReader,

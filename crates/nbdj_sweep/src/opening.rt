@@ -14,7 +14,7 @@ pub struct Judged {
 }
 
 /// Judges what a crash left: `found` is opened, on the device `work`, and then what a crash at each call of this opening
-/// leaves of it, and one behind its last call.
+/// leaves of it, and one after its last call.
 pub fn judge(
     alloc: Global,
     work: SimDisk,

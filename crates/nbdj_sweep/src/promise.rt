@@ -14,7 +14,7 @@ const CONNECTIONS: usize = 16;
 pub struct Promise {
     /// What the write commands ask for, in the order of their numbers.
     pub edits: Vec<Edit>,
-    /// So many of the first of them are there: all that were answered before a FLUSH was sent that is answered Ok, and all
+    /// This many of the first of them are there: all that were answered before a FLUSH was sent that is answered Ok, and all
     /// that wait until they are stored and are answered Ok. In ordered an answer promises nothing of what is stored: they are those
     /// that the last opening found.
     pub covered: u64,
@@ -39,8 +39,8 @@ impl Promise {
         Ok(reading.promise())
     }
 
-    /// The image of so many blocks after the first `count` commands; none where there are fewer, one of them has no place in it,
-    /// or an upgrade had lost what was promised.
+    /// The image of `blocks` blocks after the first `count` commands; none if there are fewer, if one of them has no place in it,
+    /// or if an upgrade had lost what was promised.
     pub fn image(
         &self,
         alloc: Global,
@@ -75,7 +75,7 @@ const NO_NUMBER: u64 = u64::MAX;
 #[derive(Clone, Copy)]
 struct Open {
     head: RequestHead,
-    // Where the log says that it was sent.
+    // Its place in the log.
     place: usize,
     // The number of its command.
     number: u64,
@@ -84,7 +84,7 @@ struct Open {
 }
 
 impl Open {
-    // Its command got the place behind those that these edits ask for.
+    // Its command got the place after those that these edits ask for.
     fn numbered(
         &mut self,
         alloc: Global,
@@ -242,7 +242,7 @@ fn is_durable(mode: Mode, head: RequestHead) -> bool {
     }
 }
 
-// Adds an edit behind the others, and gives its number.
+// Adds an edit after the others, and gives its number.
 fn append(edits: &mut Vec<Edit>, edit: Edit) -> Result<u64, AllocError> {
     edits.push(edit)?;
     Ok(edits.len() as u64)

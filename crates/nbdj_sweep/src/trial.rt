@@ -112,7 +112,7 @@ impl Trial {
         Ok(Outcome { disk, met, right })
     }
 
-    // Runs the script, or so many steps of it, from its first line on.
+    // Runs the script, or this many steps of it, from its first line on.
     fn play(&self, work: SimDisk, trouble: Trouble, most: usize) -> Result<Played, KeeperFault>
         requires { ⟦<SimDisk as Disk>⟧.extent work ≡ ⟦<SimDisk as Disk>⟧.extent self.now.fresh }
         ensures { IfOk result (λ played. ⟦<SimDisk as Disk>⟧.extent played.disk ≡ ⟦<SimDisk as Disk>⟧.extent self.now.fresh) }

@@ -8,7 +8,7 @@ use std::fmt;
 use std::fmt::{Display, Formatter};
 use std::io::{Read, Write};
 
-/// Runs a script anew for each call of the device behind its first line, which stops there, and once to its end, and lets
+/// Runs a script anew for each call of the device after its first line, which stops there, and once to its end, and lets
 /// the device crash, each time with each filling. Prints how many calls and runs there were and `ok`, or which crashes
 /// were not right, and answers the exit status.
 pub fn sweep<R: Read, W: Write, E: Write>(
@@ -20,7 +20,7 @@ pub fn sweep<R: Read, W: Write, E: Write>(
     exit_status(crash_everywhere(alloc, input, output), errors)
 }
 
-/// Runs a script anew for each call of the device behind its first line, which fails, and lets the device crash at the
+/// Runs a script anew for each call of the device after its first line, which fails, and lets the device crash at the
 /// end, each time with each filling. Prints how many calls of each kind there were and `ok`, or which faults were not
 /// right, and answers the exit status.
 pub fn faults<R: Read, W: Write, E: Write>(
@@ -98,7 +98,7 @@ fn crash_everywhere<R: Read, W: Write>(
     )
 }
 
-// How many runs there are for so many calls, and one to the end, with each filling.
+// How many runs there are for this many calls, and one to the end, with each filling.
 fn runs_of(calls: u64) -> u64 {
     calls.saturating_add(1).saturating_mul(CHOICES.len() as u64)
 }

@@ -25,7 +25,7 @@ pub writes_part : (old new : Option (List ℕ)) (before after : List ℕ) (resul
 writes_part old new before after (Ok done) part none = record { text = before; unsent = []; begins = sym (append-nil before); written = part; left = λ e. none }
 writes_part old new before after (Err fault) part none = record { text = part.0; unsent = part.1; begins = part.2; written = part.3; left = λ e. cc }
 
--- what wasn't written is lost, and so is what stands behind it
+-- what wasn't written is lost, and so is what stands after it
 pub writes_less : (old new : Option (List ℕ)) (before more after left : List ℕ) (result : Result (Unit {0}) StreamFault) → IsErr result → Writes old new before after false → Writes old new (before ++ more) left (is_ok result)
 writes_less old new before more after left (Ok done) is writes = cc
 writes_less old new before more after left (Err fault) is writes = record {
@@ -36,7 +36,7 @@ writes_less old new before more after left (Err fault) is writes = record {
   left = λ e. cc;
 }
 
--- all of it was written, and then what stands behind it
+-- all of it was written, and then what stands after it
 pub writes_both : (old mid new : Option (List ℕ)) (before more between after : List ℕ) (ok : Bool) → between ≡ [] → Writes old mid before between true → Writes mid new more after ok → Writes old new (before ++ more) after ok
 writes_both old mid new before more between after ok none one two = record {
   text = one.text ++ two.text;

@@ -1,4 +1,4 @@
--- A whole session, from its handshake and what came behind it.
+-- A whole session, from its handshake and what came after it.
 use Rattle.negotiation.specs.Answered.{Offer}
 use Rattle.std.proofs.Common.{◌≡◌, ℕ, List, [], ◌∷◌, ◌++◌, ◌⊎◌, Option, Result, Ok, Err, inl, inr, refl, sym, ap, subst, ◌∙◌, append_assoc}
 use Rattle.std.proofs.lemmas.List.{append-nil}
@@ -138,7 +138,7 @@ module _ {P : Type 0} (allows : P → Message → SessionFlags → P → Reply �
       pub agreed : new.agreed ≡ base.agreed
       agreed = elim h.tells.2 [ inl all ↦ ap (λ (s : SessionState). s.agreed) all.1 | inr end ↦ end.2 ]
 
-      -- nothing is read behind an end of the handshake
+      -- nothing is read after an end of the handshake
       timely : (taken : List ℕ) → (taken ≡ []) ⊎ ((h.unheard ≡ []) × IsTimely base taken) → ((h.stream ++ h.unheard) ++ taken ≡ []) ⊎ IsTimely (begun offer) ((h.stream ++ h.unheard) ++ taken)
       timely taken (inl none) = subst (λ (b : List ℕ). (b ≡ []) ⊎ IsTimely (begun offer) b) (sym (ap (λ (b : List ℕ). (h.stream ++ h.unheard) ++ b) none ∙ append-nil (h.stream ++ h.unheard))) h.read.1
       timely taken (inr both) =

@@ -71,7 +71,7 @@ greets_hears offer agreed exhausted new before after greets = stays offer agreed
 
 -- ---- what stays as it is
 
--- what ends a session stays, whatever comes behind it
+-- what ends a session stays, whatever comes after it
 no_option_append : (text more : List ℕ) → IsNoOption text → IsNoOption (text ++ more)
 no_option_append text more p =
     let same : take 8 (text ++ more) ≡ take 8 text = take-append-le 8 text more (omega (arith, p.0)) in
@@ -157,7 +157,7 @@ hands_exhausted piece = record {
   whole = inl (refl, inl refl);
 }
 
--- a piece is left only behind a handshake
+-- a piece is left only after a handshake
 abbrev IsLeft : Stage → List ℕ → Type 0
 IsLeft stage piece = (piece ≡ []) ⊎ (wanted_of stage ≡ 0)
 
@@ -350,7 +350,7 @@ module _ (offer : Offer) (agreed : Agreed) (old greeting : Standing) (before mid
     whole = elim hands.whole [ inl end ↦ inl (end.0, elim end.1 [ inl none ↦ inl none | inr b ↦ inr (refl, b) ]) | inr both ↦ inr (both.0, ap (session_at offer between.agreed) both.1) ];
   }
 
--- ---- behind the handshake
+-- ---- after the handshake
 
 pub behind_or : (standing : Standing) → IsBehind standing ⊎ (IsBehind standing → ⊥)
 behind_or silent = inr (λ b. b)

@@ -1,4 +1,4 @@
--- How a session goes on behind its handshake.
+-- How a session goes on after its handshake.
 use Rattle.std.proofs.Common.{◌≡◌, ℕ, Bool, true, List, [], ◌∷◌, ◌++◌, ◌⊎◌, Option, Some, Result, Ok, Err, inl, inr, refl, sym, ap, subst, ◌∙◌, append_assoc}
 use Rattle.std.proofs.lemmas.List.{append-nil}
 use Rattle.std.specs.Global.{Vec}
@@ -53,7 +53,7 @@ pub front_none : (xs ys : List ℕ) → [] ≡ xs ++ ys → xs ≡ []
 front_none [] ys same = refl
 front_none (x ∷ xs) ys same = cc
 
--- behind the handshake nothing is due for it
+-- after the handshake nothing is due for it
 quiet_text : (old new : SessionState) (IsRead : List ℕ → Type 0) (output made : Option (List ℕ)) (outcome : Result (Vec Message) End) (hearing : Hearing old IsRead output made outcome new) → IsBehind old.standing → hearing.text ≡ []
 quiet_text old new IsRead output made outcome hearing b =
     let none = (hearing.behind b).0 in

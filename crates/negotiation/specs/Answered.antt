@@ -31,7 +31,7 @@ abbrev pub offered : Geometry → List ℕ → Bool → Offer
 offered geometry name flushes = record { size = 4096 * geometry.blocks; name = name; flushes = flushes }
 
 -- What an option is answered: replies, and where an EXPORT_NAME begins transmission the export; what is agreed on from then on,
--- and what comes behind it.
+-- and what comes after it.
 pub record Answered : Type 0 where
   pub replies : List OptionReply
   pub export : Option ExportAnswer
@@ -68,7 +68,7 @@ export_flags offer flags =
 abbrev pub export_reply : Offer → Agreed → OptionReply
 export_reply offer agreed = messages.Info (informations.Export offer.size (export_flags offer agreed.flags))
 
--- the same for an EXPORT_NAME, with zeroes behind it unless both sides set NO_ZEROES
+-- the same for an EXPORT_NAME, with zeroes after it unless both sides set NO_ZEROES
 abbrev pub export_answer : Offer → Agreed → ExportAnswer
 export_answer offer agreed = record { size = offer.size; flags = export_flags offer agreed.flags; zeroes = not agreed.no_zeroes }
 
@@ -83,7 +83,7 @@ named agreed offer name =
     record { replies = []; export = Some (export_answer offer agreed); agreed = agreed; next = behind.Transmission }
     else record { replies = []; export = None; agreed = agreed; next = behind.Fault }
 
--- An INFO, or a GO, which next comes behind. Who asks for the sizes of blocks is told them.
+-- An INFO, or a GO, which next comes after. Who asks for the sizes of blocks is told them.
 abbrev pub informed : Agreed → Offer → InfoAsked → Next → Answered
 informed agreed offer asked next =
     if is_export offer asked.name then
@@ -157,7 +157,7 @@ IsAnswered agreed offer code content answer =
 abbrev pub AreShort : List OptionReply → Type 0
 AreShort replies = AllByRecursion (λ reply. length (reply_data reply) < 2 ^ 32) replies
 
--- the replies to the option of this number, one behind the other
+-- the replies to the option of this number, one after the other
 abbrev pub replies_bytes : ℕ → List OptionReply → List ℕ
 replies_bytes code replies = flat_map (reply_bytes code) replies
 

@@ -51,7 +51,7 @@ pub data Standing : Type 0 where
   in_flags : (bytes : List ℕ) → Standing
   -- the first bytes of what stands before an option's data
   in_head : (bytes : List ℕ) → Standing
-  -- an option with so many bytes of data, and the first of them
+  -- an option with this many bytes of data, and the first of them
   in_option : (code size : ℕ) (bytes : List ℕ) → Standing
   -- an option whose data are thrown away, and how many of them are still to come
   in_discard : (code missing : ℕ) → Standing
@@ -119,7 +119,7 @@ pub record Outcome : Type 0 where
   pub agreed : Agreed
   pub standing : Standing
 
--- behind the last option nothing was read
+-- after the last option nothing was read
 abbrev pub IsOver : Agreed → Outcome → Standing → Type 0
 IsOver agreed outcome standing =
     (outcome.requests ≡ []) × (outcome.agreed ≡ agreed) × (outcome.standing ≡ standing)
@@ -132,7 +132,7 @@ Follows behind.Transmission agreed rest turns outcome options =
 Follows behind.End agreed rest turns outcome options = (turns ≡ []) × IsOver agreed outcome ended
 Follows behind.Fault agreed rest turns outcome options = (turns ≡ []) × IsOver agreed outcome broken
 
--- Behind the client's flags stand these options, one after another, and behind them perhaps requests.
+-- After the client's flags stand these options, one after another, and after them perhaps requests.
 abbrev pub Negotiates : Offer → Agreed → List ℕ → List Turn → Outcome → Type 0
 Negotiates offer agreed stream [] outcome =
     (outcome.requests ≡ []) × (outcome.agreed ≡ agreed) × Leaves outcome.standing stream
@@ -173,7 +173,7 @@ pub record IsFlagless (stream : List ℕ) (turns : List Turn) (outcome : Outcome
   pub agreed : outcome.agreed ≡ plain
   pub leaves : LeavesFlags outcome.standing stream
 
--- the client's flags, and what stands behind them
+-- the client's flags, and what stands after them
 pub record IsNegotiated (offer : Offer) (stream : List ℕ) (turns : List Turn) (outcome : Outcome) : Type 0 where
   pub client : ClientFlags
   pub rest : List ℕ

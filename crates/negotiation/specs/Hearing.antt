@@ -28,8 +28,8 @@ pub record IsTimely (old : SessionState) (bytes : List ℕ) : Type 0 where
 abbrev pub ReadsOn : SessionState → Option (List ℕ) → Option (List ℕ) → List ℕ → Type 0
 ReadsOn old input left bytes = Consumes input left bytes × ((bytes ≡ []) ⊎ IsTimely old bytes)
 
--- What an outcome says. At Ok all replies are written, and all bytes were heard, but where memory ran out behind the requests
--- that are handed out. Where memory ran out, or a stream failed, it says nothing of the input.
+-- What an outcome says. At Ok all replies are written, and all bytes were heard, but where memory ran out after the requests
+-- that are handed out. If memory ran out, or a stream failed, it says nothing of the input.
 abbrev pub Tells : List Message → List ℕ → List ℕ → SessionState → SessionState → Result (Vec Message) End → Type 0
 Tells requests unsent unheard between new (Ok handed) =
     (requests ≡ handed.items) × (unsent ≡ []) × (((unheard ≡ []) × (new ≡ between)) ⊎ ((end_of new.standing ≡ Some NoMemory) × (0 < vec_len handed) × (new.agreed ≡ between.agreed) × IsBehind between.standing))
@@ -41,7 +41,7 @@ Tells requests unsent unheard between new (Err ProtocolEnd) =
 Tells requests unsent unheard between new (Err IoFault) = Unit {0}
 
 -- A session read these bytes and heard the first of them, and of the greeting, where it is due, and the replies to the options
--- in them some first part was written. Behind the handshake there is none of it.
+-- in them some first part was written. After the handshake there is none of it.
 pub record Hearing (old : SessionState) (IsRead : List ℕ → Type 0) (output made : Option (List ℕ)) (outcome : Result (Vec Message) End) (new : SessionState) : Type 0 where
   pub stream : List ℕ
   pub unheard : List ℕ

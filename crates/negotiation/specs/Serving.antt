@@ -36,7 +36,7 @@ pub record IsAll (unheard unsent : List ℕ) (unanswered : List Message) : Type 
   pub sent : unsent ≡ []
   pub answered : unanswered ≡ []
 
--- How a session ended: at Ok its client ended it, and otherwise its input ended, or what it sent ends it. Where memory ran out,
+-- How a session ended: at Ok its client ended it, and otherwise its input ended, or what it sent ends it. If memory ran out,
 -- or a stream failed, that says nothing of the input.
 abbrev pub Ends : Standing → List ℕ → List ℕ → List Message → Option (List ℕ) → Result (Unit {0}) End → Type 0
 Ends standing unheard unsent unanswered left (Ok done) = IsAll unheard unsent unanswered × (standing ≡ ended)
@@ -71,7 +71,7 @@ pub record IsServed {P : Type 0} (allows : P → Message → SessionFlags → P 
 abbrev pub Stands : List ℕ → SessionState → SessionState → Type 0
 Stands unheard now heard = ((unheard ≡ []) × (now ≡ heard)) ⊎ (end_of now.standing ≡ Some NoMemory)
 
--- The same behind the handshake, from a session on that had handed out some requests, with these bytes still to be heard.
+-- The same after the handshake, from a session on that had handed out some requests, with these bytes still to be heard.
 pub record Transmits {P : Type 0} (allows : P → Message → SessionFlags → P → Reply → Type 0) (flags : SessionFlags) (old : SessionState) (held : List ℕ) (waiting : List Message) (pass new : P) (input left output made : Option (List ℕ)) (end : Result (Unit {0}) End) : Type 0 where
   pub stream : List ℕ
   pub unheard : List ℕ

@@ -38,7 +38,7 @@ standing_of stages.Ended = ended
 standing_of stages.Broken = broken
 standing_of stages.Exhausted = exhausted
 
--- Behind the greeting: something is always missing.
+-- After the greeting: something is always missing.
 abbrev pub IsGreeted : Stage → Type 0
 IsGreeted stages.Silent = ⊥
 IsGreeted (stages.Flags bytes) = length bytes.items < 4
@@ -100,7 +100,7 @@ IsBehind broken = Unit {0}
 IsBehind exhausted = Unit {0}
 
 -- A piece was read, to its end but where memory ran out, and this was written for it: the greeting, where it is due, and the
--- answers to the options that it ends; none of it behind the handshake.
+-- answers to the options that it ends; none of it after the handshake.
 pub record Feeds (old : SessionState) (piece before after : List ℕ) (requests : List Message) (new : SessionState) : Type 0 where
   pub turns : List Turn
   pub first : List ℕ
@@ -125,7 +125,7 @@ room_of ended = 0
 room_of broken = 0
 room_of exhausted = 0
 
--- So many bytes were read off a stream as a piece that was fed; it ends no request, and nothing is due for it. None comes only at
+-- This many bytes were read off a stream as a piece that was fed; it ends no request, and nothing is due for it. None comes only at
 -- the end of the stream.
 pub record Fills (old : SessionState) (input left : Option (List ℕ)) (count : ℕ) (new : SessionState) : Type 0 where
   pub piece : List ℕ

@@ -28,7 +28,7 @@ is_whole head = not (bit_and head.flags 4 == 0)
 abbrev pub exchange_text : SessionFlags → Exchange → List ℕ
 exchange_text flags exchange = reply_text flags exchange.request.head.kind (is_whole exchange.request.head) exchange.reply
 
--- the replies to requests, one behind the other
+-- the replies to requests, one after the other
 abbrev pub talk_text : SessionFlags → List Exchange → List ℕ
 talk_text flags exchanges = flat_map (exchange_text flags) exchanges
 

@@ -17,7 +17,7 @@ pub struct Agreed {
     pub no_zeroes: bool,
 }
 
-/// What comes behind an option.
+/// What comes after an option.
 #[derive(Clone, Copy)]
 pub enum Next {
     /// Another option.
@@ -26,7 +26,7 @@ pub enum Next {
     Transmission,
     /// The end of the session, for which the client asked.
     End,
-    /// The end of the session, since the option can't be answered: refusal 20 (protocol end).
+    /// The end of the session, because the option can't be answered: refusal 20 (protocol end).
     Fault,
 }
 
@@ -87,7 +87,7 @@ impl OptionAnswer {
         encoded
     }
 
-    // Appends it. Where memory runs out only the first of it may be there.
+    // Appends it. If memory runs out only the first of it may be there.
     fn encode_all(&self, option: u32, out: &mut Vec<u8>) -> Result<(), AllocError>
         requires { AreShort self.now.replies }
         ensures ok { OnOk result (out.new.items ≡ out.old.items ++ answer_bytes option self.now) }
@@ -100,7 +100,7 @@ impl OptionAnswer {
         }
     }
 
-    // Appends the replies, one after another. Where memory runs out only the first of them are there.
+    // Appends the replies, one after another. If memory runs out only the first of them are there.
     fn encode_each(&self, option: u32, out: &mut Vec<u8>) -> Result<(), AllocError>
         requires { AreShort self.now.replies }
         ensures ok { OnOk result (out.new.items ≡ out.old.items ++ replies_bytes option self.now.replies) }
@@ -119,7 +119,7 @@ impl OptionAnswer {
         self.agreed
     }
 
-    /// What comes behind the option.
+    /// What comes after the option.
     pub fn next(&self) -> Next
         ensures { result ≡ self.now.next }
     {

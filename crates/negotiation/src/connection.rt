@@ -21,7 +21,7 @@ const PIECE_BYTES: usize = 65_536;
 /// `pass` of the connection.
 ///
 /// It ends with Ok after an ABORT or a DISC. Refusals 0 (no memory), 19 (peer closed), 20 (protocol end) and 21 (stream
-/// fault); behind an end nothing more is read or written.
+/// fault); after an end nothing more is read or written.
 pub fn serve_session<P, S: Serve<P>, R: Read, W: Write>(
     alloc: Global,
     input: &mut R,

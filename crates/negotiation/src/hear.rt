@@ -50,8 +50,8 @@ pub fn negotiate<R: Read, W: Write>(
     Err(End::IoFault)
 }
 
-// Reads what there is, writes what is due for it, and hands out the requests in it. Behind an end it reads nothing, and an
-// end behind earlier requests is told before more input is waited for. With no request it has read something, or the
+// Reads what there is, writes what is due for it, and hands out the requests in it. After an end it reads nothing, and an
+// end after earlier requests is told before more input is waited for. With no request it has read something, or the
 // session is over.
 pub fn hear<R: Read, W: Write>(
     input: &mut R,

@@ -79,7 +79,7 @@ pub fn answer_option(
     }
 }
 
-/// The answer to an option of this number that isn't read, since its data are malformed or too long. A selection
+/// The answer to an option of this number that isn't read, because its data are malformed or too long. A selection
 /// of contexts that is refused leaves none selected. Refusal 0 (no memory).
 pub fn refuse_option(
     alloc: Global,

@@ -20,7 +20,7 @@ use nbd_wire::{
 };
 use std::io::Write;
 
-// Where the replies that are due pass so many bytes they are written: 1 MiB.
+// If the replies that are due pass this many bytes they are written: 1 MiB.
 const MOST_DUE: usize = 1_048_576;
 
 /// An export, as a session sees it. `P` is what an export keeps of one connection.
@@ -120,7 +120,7 @@ pub fn write_due<W: Write>(output: &mut W, due: &mut Vec<u8>) -> Result<(), Stre
     written
 }
 
-// Answers a request, and puts its reply behind those that are due; long data of a READ are written at once, from where they are.
+// Answers a request, and puts its reply after those that are due; long data of a READ are written at once, from where they are.
 fn answer<P, S: Serve<P>, W: Write>(
     export: &S,
     pass: &mut P,
@@ -141,7 +141,7 @@ fn answer<P, S: Serve<P>, W: Write>(
     Ok(())
 }
 
-// Writes what is due and these bytes behind it, so that they can go out together; not where there are none.
+// Writes what is due and these bytes after it, so that they can go out together; not where there are none.
 fn write_behind<W: Write>(
     output: &mut W,
     due: &mut Vec<u8>,

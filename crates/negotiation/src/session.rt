@@ -16,7 +16,7 @@ use std::io::{self, Read};
 use std::marker::Model;
 use std::mem;
 
-/// One connection as the server sees it, from its first byte on: the handshake, and the requests behind it. What the
+/// One connection as the server sees it, from its first byte on: the handshake, and the requests after it. What the
 /// client sent may come in any pieces.
 pub struct Session {
     alloc: Global,
@@ -70,8 +70,8 @@ impl Session {
     /// whole now and stand before a DISC ("Fixed newstyle negotiation" and "Transmission" of NBD's `proto.md`). The
     /// greeting comes with the first piece, which may be empty.
     ///
-    /// Refusals 0 (no memory) and 20 (protocol end: what the client sent ends the session). Each stands behind the
-    /// requests that came before it, and then for good.
+    /// Refusals 0 (no memory) and 20 (protocol end: what the client sent ends the session). Each comes after the
+    /// requests before it, and all later calls give it too.
     pub fn feed(&mut self, piece: &[u8], out: &mut Vec<u8>) -> Result<Vec<Request>, End>
         // However the input was cut, these are its next requests, and this was due for its next options.
         ensures session { Feeds self.old piece.now out.old.items out.new.items (handed result) self.new }
@@ -112,7 +112,7 @@ impl Session {
     }
 
     /// Reads once from the stream, straight into the room of the data at hand, but for their last byte. So no request is
-    /// whole behind it, and nothing is due. A fault of the stream leaves the session as it was.
+    /// whole after it, and nothing is due. A fault of the stream leaves the session as it was.
     pub fn fill<R: Read>(&mut self, input: &mut R) -> io::Result<usize>
         requires { 1 < room_of self.old.standing }
 
@@ -169,7 +169,7 @@ fn greet(alloc: Global, stage: Stage, out: &mut Vec<u8>) -> Result<Stage, AllocE
     }
 }
 
-// Reads the handshake as far as the piece goes, and answers its options. The rest of the piece stands behind the
+// Reads the handshake as far as the piece goes, and answers its options. The rest of the piece stands after the
 // handshake.
 fn negotiate<'a>(
     alloc: Global,
@@ -226,7 +226,7 @@ fn advance(
     }
 }
 
-// Reads the rest of a piece behind the handshake, and hands out the requests in it.
+// Reads the rest of a piece after the handshake, and hands out the requests in it.
 fn hand_out(alloc: Global, stage: Stage, rest: &[u8]) -> (Stage, Result<Vec<Request>, End>)
     requires sound { IsGreeted stage }
     requires all { (rest.now ≡ []) ⊎ (wanted_of stage ≡ 0) }

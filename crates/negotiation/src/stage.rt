@@ -51,7 +51,7 @@ pub struct Talk {
     pub stage: Stage,
 }
 
-// What is read behind an option.
+// What is read after an option.
 pub fn behind(alloc: Global, next: Next) -> Stage
     ensures sound { IsGreeted result }
     ensures value { standing_of result ≡ standing_behind next }

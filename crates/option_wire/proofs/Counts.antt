@@ -1,4 +1,4 @@
--- Lists of items behind their number, as they are read.
+-- Lists of items after their number, as they are read.
 use Rattle.std.proofs.Common.{◌≡◌, ℕ, ◌<◌, ◌^◌, List, ◌++◌, length, sym, ap, ◌∙◌, length-append, arith}
 use Rattle.std.specs.Prelude.{Result, Err, IsErrOf}
 use Rattle.std.specs.Int.{w16, w32, to_be_bytes}
@@ -43,7 +43,7 @@ short_queries content rest behind items queries count fits whole reads lt short 
     let more = Reads-more counted IsText texts_apart rest items queries behind reads are.1 (omega (arith, in_queries.0)) in_queries.1 in
     short more.0 more.1 more.2 more.3
 
--- something stands behind the last item
+-- something stands after the last item
 pub long_types : (content rest items behind types : List ℕ) (count : ℕ) → count < 2 ^ 16 → content ≡ to_be_bytes w16 count ++ rest → Reads (to_be_bytes w16) (λ kind. kind < 2 ^ 16) rest items behind
     → length items ≡ count → 0 < length behind → AreTypes types → content ≡ types_bytes types → ⊥
 long_types content rest items behind types count fits whole reads len some are same =

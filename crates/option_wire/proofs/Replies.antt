@@ -41,7 +41,7 @@ type_fits (Info information) = lit< tt
 type_fits (MetaContext id name) = lit< tt
 type_fits (Refused error) = omega (arith, error_fits error)
 
--- behind the two bytes of the type of information
+-- after the two bytes of the type of information
 pub behind_type : (kind : ℕ) (x y : List ℕ) → to_be_bytes w16 kind ++ x ≡ to_be_bytes w16 kind ++ y → x ≡ y
 behind_type kind x y same = (same_front (to_be_bytes w16 kind) (to_be_bytes w16 kind) x y refl same).1
 

@@ -32,7 +32,7 @@ fn take_u32(bytes: &[u8]) -> Option<(u32, &[u8])>
     Some((BigEndian::read_u32(number), rest))
 }
 
-/// The string that the bytes begin with, and the bytes behind it.
+/// The string that the bytes begin with, and the bytes after it.
 pub fn take_text(bytes: &[u8]) -> Option<(&[u8], &[u8])>
     ensures fits { IfSome result (λ taken. IsText taken.0.now) }
     ensures found { IfSome result (λ taken. bytes.now ≡ counted taken.0.now ++ taken.1.now) }

@@ -6,7 +6,7 @@ use byteorder::{BigEndian, ByteOrder};
 
 const NBD_MAGIC: u64 = 0x4e42_444d_4147_4943;
 
-/// What an option begins with, and behind another number the server's greeting ("Fixed newstyle negotiation" of NBD's
+/// What an option begins with, and after another number the server's greeting ("Fixed newstyle negotiation" of NBD's
 /// `proto.md`). A reply to an option begins otherwise.
 pub const OPTION_MAGIC: u64 = 0x4948_4156_454f_5054;
 
@@ -86,7 +86,7 @@ impl ClientFlags {
             || self == ClientFlags::FIXED_NEWSTYLE.union(ClientFlags::NO_ZEROES)
     }
 
-    /// Whether the client takes no zeroes behind the answer to an EXPORT_NAME, as the greeting offers it.
+    /// Whether the client takes no zeroes after the answer to an EXPORT_NAME, as the greeting offers it.
     pub fn omits_zeroes(self) -> bool
         ensures { result ≡ omits_zeroes self }
     {

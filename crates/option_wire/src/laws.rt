@@ -1,4 +1,4 @@
-//! What holds of the messages of the handshake, whoever reads them.
+//! Laws of the messages of the handshake.
 ghost use Rattle.option_wire.specs.Options.{OneOption, OneRequest, OneSpelling};
 ghost use Rattle.option_wire.specs.Reply.{OneReply};
 

@@ -53,8 +53,8 @@ pub enum ClientOption {
     Unknown(u32),
 }
 
-/// What an INFO or a GO asks for. Its data are the name as a string behind its length in 32 bits, a count in 16
-/// bits, and so many types of 16 bits.
+/// What an INFO or a GO asks for. Its data are the name as a string after its length in 32 bits, a count in 16
+/// bits, and that many types of 16 bits.
 #[derive(Debug, Drop)]
 pub struct InfoRequest {
     name: Text,
@@ -85,8 +85,8 @@ impl InfoRequest {
     }
 }
 
-/// What a LIST_META_CONTEXT or a SET_META_CONTEXT asks for. Its data are the name as a string behind its length
-/// in 32 bits, a count in 32 bits, and so many queries, each as the name.
+/// What a LIST_META_CONTEXT or a SET_META_CONTEXT asks for. Its data are the name as a string after its length
+/// in 32 bits, a count in 32 bits, and that many queries, each as the name.
 #[derive(Debug, Drop)]
 pub struct ContextRequest {
     name: Text,

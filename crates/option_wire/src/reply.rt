@@ -205,7 +205,7 @@ fn put_data(out: &mut Vec<u8>, reply: &OptionReply)
     }
 }
 
-// Appends a string behind its length, for which there is room.
+// Appends a string after its length, for which there is room.
 fn put_counted(out: &mut Vec<u8>, text: &[u8])
     requires room { vec_len out.old + 4 + length text.now ≤ vec_capacity out.old }
     requires fits { length text.now < 2 ^ 32 }

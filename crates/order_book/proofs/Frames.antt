@@ -59,7 +59,7 @@ lookup-outside inside dirty q =
     ∙ lookup-filter-keys (nat_eq q) (λ block. not (inside block)) (not (inside q)) (λ k same. sym (ap (λ block. not (inside block)) (eqb-true q k same))) (pairs dirty)
     ∙ turned (inside q) (lookup (nat_eq q) (pairs dirty))
 
--- one more behind them
+-- one more after them
 lookup-push : (q block number : ℕ) (bytes : List ℕ) (dirty : List DirtyBlock) (found : Option ℕ)
     → lookup (nat_eq q) (pairs dirty) ≡ (if nat_eq q block then None else found)
     → lookup (nat_eq q) (pairs (dirty ++ record { block = block; number = number; bytes = bytes } ∷ [])) ≡ (if nat_eq q block then Some number else found)
@@ -328,7 +328,7 @@ frames-cleaned number s =
         other : (own : ℕ) → nat_lt number own ≡ not (nat_le own number)
         other own = grind (arith, nat_tests)
 
--- the numbers of the dirty blocks behind puts
+-- the numbers of the dirty blocks after puts
 order-puts : (number first : ℕ) (blocks : List (List ℕ)) (s : BlocksState) → All (λ (held : DirtyBlock). held.number ≤ number) s.dirty
     → All (λ (held : DirtyBlock). held.number ≤ number) (with_puts number first blocks s).dirty
 order-puts number first [] s below = below
@@ -362,7 +362,7 @@ missing_of (Written first bytes) s = count_missing first (blocks_of (Written fir
 missing_of (Cleared first blocks kind) s = 0
 missing_of (Edged first blocks kind edges bytes) s = edges_missing first blocks (head_count edges) (tail_count edges) s
 
--- with them so many blocks are dirty
+-- with them this many blocks are dirty
 len-edges : (number first blocks : ℕ) (edges : Edges) (s : BlocksState) → IsOnce s → least_blocks edges ≤ blocks
     → len (with_edges (from_entries (pairs s.dirty)) number first blocks edges) ≡ length s.dirty + edges_missing first blocks (head_count edges) (tail_count edges) s
 len-edges number first blocks Head s once least =

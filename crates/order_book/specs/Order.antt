@@ -148,7 +148,7 @@ pub record IsNumbered (order : OrderState) : Type 0 where
   pub opened : (order.opening ≤ order.durable) × (order.opening + order.in_hand ≤ order.sealed)
   pub mark : order.mark < 18446744073709551616
 
--- what holds of each order; `spare` is the room behind the pending commands, `opening` the number with which its board opened, and
+-- what holds of each order; `spare` is the room after the pending commands, `opening` the number with which its board opened, and
 -- `accepted` the one that it shows
 pub record IsOrder (order : OrderState) (spare opening accepted : ℕ) : Type 0 where
   pub numbers : IsNumbered order

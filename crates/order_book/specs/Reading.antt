@@ -51,7 +51,7 @@ with_kept block bytes cache =
     then record { states = cache.states; blocks = with_fill block bytes cache.blocks }
     else cache
 
--- the first so many of the blocks that were read, kept one after another
+-- the first N of the blocks that were read, kept one after another
 abbrev pub with_all_kept : ℕ → List ℕ → ℕ → CacheState → CacheState
 with_all_kept first bytes zero cache = cache
 with_all_kept first bytes (suc count) cache = with_kept (first + count) (block_of bytes count) (with_all_kept first bytes count cache)
@@ -61,7 +61,7 @@ abbrev pub IsKept : ℕ → List ℕ → CacheState → CacheState → Kept → 
 IsKept first bytes old new All = new ≡ with_all_kept first bytes (length bytes / 4096) old
 IsKept first bytes old new NoMemory = (count : ℕ) × (4096 * count < length bytes) × (new ≡ with_all_kept first bytes count old)
 
--- Blocks of the image that are data and not dirty are at the base as the image has them, and no command in front of the last area
+-- Blocks of the image that are data and not dirty are at the base as the image has them, and no command before the last area
 -- writes one.
 pub record IsCleanAt (base : Image) (front : List Change) (image : Image) (dirty : Dirty) : Type 0 where
   pub kinds : (block : ℕ) → image.kind block ≡ Data → get dirty block ≡ None → base.kind block ≡ Data
@@ -74,7 +74,7 @@ abbrev pub LiesIn : ℕ → Span → Type 0
 LiesIn block span = (span.first ≤ block) × (block < span.end)
 
 -- Bytes that were handed in for blocks from the first one on are those of the base, for each that isn't in memory, is data at the
--- base, and that no command in front of the last area writes. Of bytes that a second handle of the device has read while nobody
+-- base, and that no command before the last area writes. Of bytes that a second handle of the device has read while nobody
 -- wrote such a block this is what is trusted, and all.
 abbrev pub GivesBase : ℕ → List ℕ → CacheState → Image → List Change → Type 0
 GivesBase first bytes cache base front =

@@ -41,7 +41,7 @@ pub(crate) fn of_keeper(fault: KeeperFault) -> OrderFault
 /// A block of zero bytes.
 pub(crate) static ZERO_BLOCK: [u8; 4096] = [0; 4096];
 
-// How many blocks so many bytes touch.
+// How many blocks this many bytes touch.
 fn blocks_met(offset: u64, count: u64) -> u64
     requires { count < 2 ^ 63 }
     ensures { result ≡ blocks_met offset count }
@@ -49,7 +49,7 @@ fn blocks_met(offset: u64, count: u64) -> u64
     (offset % BLOCK_BYTES + count + BLOCK_BYTES - 1) / BLOCK_BYTES
 }
 
-// Whether some of a block's bytes are among so many, and not all.
+// Whether some of a block's bytes are among this many, and not all.
 fn is_in_part(offset: u64, count: u64, block: u64) -> bool
     requires fits { offset + count < 2 ^ 63 }
     requires number { block < 2 ^ 50 }
@@ -192,7 +192,7 @@ pub(crate) fn read_old<D: Disk>(
     read_part(cache, keeper, edit, last, tail)
 }
 
-// Whether a block is data that so many bytes cover in part, where they touch it.
+// Whether a block is data that this many bytes cover in part, where they touch it.
 fn is_partial_data(cache: &Cache, offset: u64, count: u64, block: u64) -> bool
     requires fits { offset + count < 2 ^ 63 }
     requires number { block < 2 ^ 50 }
@@ -339,7 +339,7 @@ fn put_bytes(
     Ok(all)
 }
 
-// So many zero bytes, of no more than a block.
+// This many zero bytes, of no more than a block.
 fn zeros(count: usize) -> &'static [u8]
     requires { count ≤ 4096 }
     ensures { result.now ≡ replicate count 0 }
@@ -347,7 +347,7 @@ fn zeros(count: usize) -> &'static [u8]
     &ZERO_BLOCK[..count]
 }
 
-// Adds a block of old bytes, but zero where so many bytes from the offset on stand.
+// Adds a block of old bytes, but zero where this many bytes from the offset on stand.
 fn push_zeroed(
     all: &mut Vec<u8>,
     old: &[u8],

@@ -7,7 +7,7 @@ use std::fmt::{Display, Formatter};
 pub enum OrderFault {
     /// 0: a growth of memory was refused.
     NoMemory,
-    /// 1: a call of the device failed, by which old bytes of an edit were to be read.
+    /// 1: a call of the device that was to read old bytes of an edit failed.
     DeviceFault,
     /// 9: the last number of 64 bits is taken.
     NumbersFull,

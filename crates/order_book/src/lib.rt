@@ -1,4 +1,4 @@
-//! The order in which write commands count: their numbers, those that wait for the journal, and the groups cut of them.
+//! The total order of write commands: their numbers, the pending ones, and the groups that are made of them.
 #![tactic(auto)]
 
 mod backlog;

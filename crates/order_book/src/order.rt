@@ -45,13 +45,13 @@ use std::marker::Model;
 /// The most bytes that the commands which aren't durable take in groups.
 const MOST_BACKLOG_BYTES: u64 = 67_108_864;
 
-/// The bytes of an area round a group's body: what stands before it, and the gate behind it.
+/// The bytes of an area round a group's body: what stands before it, and the gate after it.
 const BYTES_ROUND_BODY: u64 = 18;
 
 /// A span of more blocks that was read with no lock held isn't kept in memory: it would push out as many.
 const MOST_KEPT: u64 = 8;
 
-/// The order in which write commands count, under the name of the board that shows its last number.
+/// The total order of write commands, under the name of the board that shows its last number.
 pub struct Order<B: BoardName> {
     opening: u64,
     durable: u64,
@@ -119,7 +119,7 @@ fn make_room(
 }
 
 impl<B: BoardName> Order<B> {
-    /// An order over an image with these states, whose next number is `opening` + 1, with so many frames for blocks and
+    /// An order over an image with these states, whose next number is `opening` + 1, with `frames` frames for blocks and
     /// journal areas of `area` bytes. It takes the memory of all frames. Refusal 0 (no memory).
     pub fn new(
         alloc: Global,
@@ -186,7 +186,7 @@ impl<B: BoardName> Order<B> {
         self.mark
     }
 
-    /// The last number of which it is known that it and all before it are durable.
+    /// The durable watermark, as the order knows it: all commands up to this number are stored.
     pub fn durable(&self) -> u64
         ensures { result ≡ self.now.durable }
     {
@@ -254,7 +254,7 @@ impl<B: BoardName> Order<B> {
         self.stopped
     }
 
-    /// The number of the last command that was accepted, shown to a pass with the history: what a FLUSH waits for.
+    /// Shows a pass the number of the last command that was accepted, and the history. A FLUSH waits for that number.
     pub fn show_mark<T: Trust>(&mut self, board: &Board<B, T>, pass: &mut Pass<B>) -> u64
         ensures mark { result ≡ self.old.mark }
         ensures place { result ≡ B.opening + length self.old.history }
@@ -266,7 +266,7 @@ impl<B: BoardName> Order<B> {
         board.show_accepted(&mut self.seat, pass)
     }
 
-    /// The same, to a client that has sent a FLUSH: it waits for that number, or is done in a mode in which none waits.
+    /// The same for a client that has sent a FLUSH, which waits for that number, or is done in a mode in which none waits.
     pub fn await_mark<T: Trust>(&mut self, board: &Board<B, T>, pass: &mut Pass<B>) -> u64
         requires asked { T.logs → pass.old.client.speaks ≡ true → HasFlushed pass.old.client }
         ensures mark { result ≡ self.old.mark }
@@ -280,7 +280,7 @@ impl<B: BoardName> Order<B> {
         board.await_accepted(&mut self.seat, pass)
     }
 
-    /// The history as it is, for the keeper's seat to be told of.
+    /// The history as it is, to be told to the keeper's seat.
     pub fn note<T: Trust>(&mut self, board: &Board<B, T>) -> Told<B>
         ensures same { self.new ≡ self.old }
         ensures told { (result.history ≡ self.old.history) × (result.accepted ≡ self.old.mark) }
@@ -288,7 +288,7 @@ impl<B: BoardName> Order<B> {
         board.note(&mut self.seat)
     }
 
-    /// Compares what was told with the history: that begins it.
+    /// Compares what was told with the history: it is a prefix.
     pub fn compare<T: Trust>(&mut self, board: &Board<B, T>, told: Told<B>)
         ensures same { self.new ≡ self.old }
         ensures told { IsPrefix told.history self.old.history }
@@ -296,8 +296,8 @@ impl<B: BoardName> Order<B> {
         board.compare(&mut self.seat, told);
     }
 
-    /// The keeper's seat meets the order, and knows then all of it: what it knew begins the history, and the order's base is no
-    /// greater than its own.
+    /// Tells the keeper's seat the whole history. What that seat knew is a prefix of it, and the order's base is no greater than
+    /// the seat's.
     pub fn meet<T: Trust>(&mut self, board: &Board<B, T>, keeper: &mut KeeperSeat<B>)
         ensures same { self.new ≡ self.old }
         ensures knew { IsPrefix keeper.old.history self.old.history }
@@ -315,8 +315,8 @@ impl<B: BoardName> Order<B> {
         board.brief_base(&mut self.seat, seat);
     }
 
-    /// Takes the command as the last one, for a pass, and gives its number, to which the board is raised; a refusal hands it
-    /// back.
+    /// Accepts the command as the last one, for a pass: it raises the board to the command's number, and returns that. A refusal
+    /// hands the command back.
     ///
     /// The refusals, in the order in which they are looked for: 18 (stopped), 9 (numbers full), 17 (no room), 0 (no memory).
     pub fn accept<T: Trust>(
@@ -338,7 +338,7 @@ impl<B: BoardName> Order<B> {
         ensures unchanged { OnErr result (self.new ≡ self.old) }
 
         // The number is above all that the pass had seen or was told, the command is the pass's own under it, and the history that
-        // the pass then knows has it as its last, behind all that the pass knew.
+        // the pass then knows has it as its last, after all that the pass knew.
         ensures known { IfOk result (λ number. known pass.old < number) }
         ensures knew { OnOk result (IsPrefix pass.old.history self.old.history) }
         ensures pass { IfOk result (λ number. pass.new
@@ -432,9 +432,9 @@ impl<B: BoardName> Order<B> {
             && self.backlog.total() + command.body_bytes() <= MOST_BACKLOG_BYTES
     }
 
-    /// The longest beginning of the pending commands that a group may hold, whose places stay free for `put_back`.
+    /// Takes the longest prefix of the pending commands that fits into a group. Their places stay free for `put_back`.
     ///
-    /// None where nothing is pending, or where what was sealed isn't durable yet: a group is in hand, or was stored and not published.
+    /// None if nothing is pending, or if what was sealed isn't durable yet: a group is in hand, or was stored and not published.
     /// Refusal 0 (no memory).
     pub fn seal(&mut self) -> Result<Option<Group>, OrderFault>
         ensures group { IfOk result (λ sealed. IfSome sealed (Seals self.old self.new)) }
@@ -487,8 +487,8 @@ impl<B: BoardName> Order<B> {
         self.in_hand = 0;
     }
 
-    /// Raises the durable number to the keeper's count, where that lies between the durable number and the last accepted one,
-    /// and the board's with it.
+    /// Raises the durable number of order and board to the keeper's count, if that lies between the durable number and the last
+    /// accepted one.
     pub fn publish<D: Disk, T: Trust>(
         &mut self,
         board: &Board<B, T>,
@@ -507,8 +507,8 @@ impl<B: BoardName> Order<B> {
         }
     }
 
-    /// Makes the dirty blocks clean whose number is at most the keeper's base, by a step for each of them, and tells
-    /// whether there were any. What is known of the image stays.
+    /// Makes those dirty blocks clean whose number is at most the keeper's base, in one step each, and tells whether there were
+    /// any. What is known of the image stays.
     pub fn clean<D: Disk>(&mut self, keeper: &Keeper<D>) -> bool
         ensures new { self.new ≡ with_clean self.old keeper.now.base }
         ensures view { ShowsClean keeper.now.base self.old.cache self.new.cache }
@@ -519,8 +519,8 @@ impl<B: BoardName> Order<B> {
         clean_through(&mut self.cache, keeper.base())
     }
 
-    /// Reads blocks from the first one on, as all that was accepted left them. It is refused with 14 (missing block) exactly
-    /// where one that is data has no frame; the slice then holds any bytes.
+    /// Reads blocks from `first` on, as all that was accepted left them. Refusal 14 (missing block), exactly if one that is data
+    /// has no frame; the slice then holds any bytes.
     pub fn read_cached(&self, first: u64, into: &mut [[u8; 4096]]) -> Result<(), Missing>
         requires range { first + length into.old ≤ length self.now.cache.states }
         ensures ok { OnOk result ((k : ℕ) (d : List ℕ) → k < length into.new → bytes_seen self.now.cache (first + k) ≡ Some (slice_index_or into.new k d)) }
@@ -531,7 +531,7 @@ impl<B: BoardName> Order<B> {
         self.cache.read_cached(first, into)
     }
 
-    /// Whether so many blocks from the first one on are all in memory: a read of them needs no device.
+    /// Whether `count` blocks from `first` on are all in memory: a read of them needs no device.
     pub fn holds(&self, first: u64, count: u64) -> bool
         requires range { first + count ≤ length self.now.cache.states }
         ensures { (result ≡ false) ↔ LacksBytes self.now.cache first count }
@@ -540,7 +540,7 @@ impl<B: BoardName> Order<B> {
         holds(&self.cache, first, count)
     }
 
-    /// Reads blocks that are all in memory, from the first one on, as all that was accepted left them.
+    /// Reads blocks that are all in memory, from `first` on, as all that was accepted left them.
     pub fn read_held(&self, first: u64, into: &mut [u8])
         requires whole { length into.old % 4096 ≡ 0 }
         requires range { first + length into.old / 4096 ≤ length self.now.cache.states }
@@ -556,11 +556,11 @@ impl<B: BoardName> Order<B> {
         read_all_held(&self.cache, first, into)
     }
 
-    /// Reads blocks from the first one on, as all that was accepted left them: from memory those that are there, and from
-    /// the data region each run of the others in one call of the device. These are then kept in memory, as far as there
-    /// are frames that aren't dirty and memory isn't refused, which it tells.
+    /// Reads blocks from `first` on, as all that was accepted left them: those in memory from there, and each run of the others
+    /// from the data region in one call of the device. These are then kept in memory, as far as there are frames that aren't
+    /// dirty and memory doesn't run out, which it tells.
     ///
-    /// Where all are in memory nothing has changed. Else refusals 1 (device fault), and 16 (failed) after an earlier one;
+    /// If all of them are in memory nothing changes. Otherwise refusals 1 (device fault), and 16 (failed) after an earlier one;
     /// `into` then holds any bytes.
     pub fn read_with<D: Disk>(
         &mut self,
@@ -611,8 +611,8 @@ impl<B: BoardName> Order<B> {
         Ok(keep_blocks(&mut self.cache, first, held, into))
     }
 
-    /// The span from the first block that isn't in memory to the last, of so many: what a read of them needs of the device.
-    /// Where all are in memory it is empty.
+    /// Of `count` blocks from `first` on, the span from the first that isn't in memory to the last: a read of them needs it from
+    /// the device. It is empty if all are in memory.
     pub fn missing(&self, first: u64, count: u64) -> Span
         requires range { first + count ≤ length self.now.cache.states }
         requires some { 0 < count }
@@ -625,12 +625,11 @@ impl<B: BoardName> Order<B> {
         missing_span(&self.cache, first, count)
     }
 
-    /// Reads blocks from the first one on, as all that was accepted left them, over bytes that were read of a span of them
-    /// before: what is in memory is put over those, and the others of a short span are kept in memory, as far as there are
-    /// frames that aren't dirty.
+    /// Completes a read of blocks from `first` on, as all that was accepted left them, of which a span was read before. Blocks
+    /// that are in memory replace the bytes read. The others of a short span are kept in memory, as far as there are frames
+    /// that aren't dirty.
     ///
-    /// It isn't done where a block that isn't in memory lies outside the span: then nothing has changed, and `into` holds
-    /// any bytes.
+    /// False if a block that isn't in memory lies outside the span: then nothing has changed, and `into` holds any bytes.
     pub fn read_over(&mut self, first: u64, span: Span, into: &mut [u8]) -> bool
         requires whole { length into.old % 4096 ≡ 0 }
         requires range { first + length into.old / 4096 ≤ length self.old.cache.states }

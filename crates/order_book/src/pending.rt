@@ -58,7 +58,7 @@ fn longest(commands: &VecDeque<Command>, limit: u64) -> usize
     commands.len()
 }
 
-// Moves the first `count` commands behind those of `taken`, which has room for them.
+// Moves the first `count` commands after those of `taken`, which has room for them.
 fn move_front(commands: &mut VecDeque<Command>, count: usize, taken: &mut Vec<Command>)
     requires there { count ≤ deque_len commands.old }
     requires room { length taken.old.items + count ≤ vec_capacity taken.old }

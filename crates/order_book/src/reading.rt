@@ -47,7 +47,7 @@ fn read_held(cache: &Cache, first: u64, from: usize, into: &mut [u8]) -> usize
     blocks
 }
 
-// Whether so many blocks from the first one on are all in memory.
+// Whether this many blocks from the first one on are all in memory.
 pub(crate) fn holds(cache: &Cache, first: u64, count: u64) -> bool
     requires range { first + count ≤ length cache.now.states }
     requires fits { first + count < 2 ^ 64 }
@@ -75,7 +75,7 @@ pub(crate) fn read_all_held(cache: &Cache, first: u64, into: &mut [u8])
     read_held(cache, first, 0, into);
 }
 
-// The end of the run of blocks that aren't in memory, from this one of so many on.
+// The end of the run of blocks that aren't in memory, from this one of N on.
 fn missing_end(cache: &Cache, first: u64, from: usize, blocks: usize) -> usize
     requires range { first + blocks ≤ length cache.now.states }
     requires fits { first + blocks < 2 ^ 64 }
@@ -191,7 +191,7 @@ fn keep_block(cache: &mut Cache, block: u64, bytes: &[u8; 4096]) -> Kept
     }
 }
 
-// Keeps blocks that were read, from this one of them on, where those in front of it are in memory.
+// Keeps blocks that were read, from this one of them on, where those before it are in memory.
 pub(crate) fn keep_blocks(cache: &mut Cache, first: u64, from: usize, bytes: &[u8]) -> Kept
     requires whole { length bytes.now % 4096 ≡ 0 }
     requires range { first + length bytes.now / 4096 ≤ length cache.old.states }
@@ -212,7 +212,7 @@ pub(crate) fn keep_blocks(cache: &mut Cache, first: u64, from: usize, bytes: &[u
     Kept::All
 }
 
-// The span from the first block that isn't in memory to the last, of so many; where all are it is empty.
+// The span from the first block that isn't in memory to the last, of N; where all are it is empty.
 pub(crate) fn missing_span(cache: &Cache, first: u64, count: u64) -> Span
     requires range { first + count ≤ length cache.now.states }
     requires some { 0 < count }

@@ -39,7 +39,7 @@ impl Model for PlainImage {
 }
 
 impl PlainImage {
-    /// An image of so many blocks, which are holes. Refusal 0 (no memory).
+    /// An image of `blocks` blocks, all of them holes. Refusal 0 (no memory).
     pub fn new(alloc: Global, blocks: u32) -> Result<PlainImage, AllocError>
         ensures { IfOk result (λ plain. plain ≡ record { bytes = replicate (4096 * blocks) 0; kinds = replicate blocks Kind.Hole }) }
     {

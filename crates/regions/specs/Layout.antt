@@ -26,16 +26,16 @@ map_at geometry slot = 8192 + 2 * geometry.area + map_bytes_of geometry.blocks *
 abbrev pub block_at : Geometry → ℕ → ℕ
 block_at geometry block = 8192 + 2 * geometry.area + 2 * map_bytes_of geometry.blocks + 4096 * block
 
--- the area that follows this one in a ring of so many
+-- the area that follows this one in a ring of N
 abbrev pub next_of : ℕ → ℕ → ℕ
 next_of count area = if area + 1 == count then 0 else area + 1
 
--- so many areas in the order of the ring, this one first
+-- this many areas in the order of the ring, this one first
 abbrev pub ring : ℕ → ℕ → ℕ → List ℕ
 ring count zero area = []
 ring count (suc n) area = area ∷ ring count n (next_of count area)
 
--- the area so many places behind this one in the ring
+-- the area this many places after this one in the ring
 abbrev pub behind : ℕ → ℕ → ℕ → ℕ
 behind count zero area = area
 behind count (suc n) area = behind count n (next_of count area)

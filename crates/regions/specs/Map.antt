@@ -8,7 +8,7 @@ use Rattle.image_model.specs.declared.command.Kind.{Kind}
 use Rattle.regions.specs.declared.fault.RegionFault.{RegionFault}
 use Rattle.regions.specs.declared.fault.RegionFault.TheVariants.{NoMemory, DeviceFault, BadMap}
 
--- These are the bytes of the map slot that begins at this place, on a device of so many blocks.
+-- These are the bytes of the map slot that begins at this place, on a device of this many blocks.
 pub record AreSlot (content : List ℕ) (place blocks : ℕ) (bytes : List ℕ) : Type 0 where
   pub size : length bytes ≡ map_bytes_of blocks
   pub same : (k : ℕ) → k < map_bytes_of blocks → slice_index bytes k ≡ slice_index content (place + k)

@@ -1,4 +1,4 @@
-//! Where a device's map slots and data stand, and the calls that read and write them.
+//! The places of a device's map slots and data, and the calls that read and write them.
 #![tactic(auto)]
 
 mod fault;

@@ -13,7 +13,7 @@ use disk_model::{DeviceFault, Disk};
 use image_model::{BLOCK_BYTES, Geometry, Side};
 use std::alloc::Global;
 
-/// Where the map slots and the data of a device stand.
+/// The places of a device's map slots and data.
 #[derive(Clone, Copy)]
 pub struct Regions {
     pub geometry: Geometry,
@@ -38,7 +38,7 @@ impl Regions {
         8192 + self.geometry.area_size() as u64 * area as u64
     }
 
-    /// The area so many places behind this one in the ring.
+    /// The area `places` places after this one in the ring.
     pub fn area_behind(&self, area: u8, places: u8) -> u8
         requires area { area < areas_in self.now.geometry }
         requires places { places < areas_in self.now.geometry }

@@ -27,7 +27,7 @@ in_parts : (s : ℕ) (first rest : List ℕ) → IsInState s (first ++ rest) →
 in_parts s first rest (inl is) = (inl is, inl is)
 in_parts s first rest (inr is) = let parts = zeros_parts first rest is.1 in (inr (is.0, parts.0), inr (is.0, parts.1))
 
--- runs part the bytes behind the first ones
+-- runs part the bytes after the first ones
 pub parts_front : (run : Run) (runs : List Run) (front bytes : List ℕ) → length front < run.length → PartsBytes (run ∷ runs) (front ++ bytes)
     → PartsBytes (cut_front (length front) (run ∷ runs)) bytes
 parts_front run runs front bytes less parts =
@@ -43,7 +43,7 @@ parts_front run runs front bytes less parts =
       subst (PartsBytes runs) (ap (λ (n : ℕ). drop n (front ++ bytes)) all ∙ drop-append-add front bytes left) parts.3,
     )
 
--- runs part the bytes in front of the last ones
+-- runs part the bytes before the last ones
 pub parts_behind : (runs : List Run) (bytes tail : List ℕ) → 0 < length bytes → PartsBytes runs (bytes ++ tail) → PartsBytes (cut_behind (length bytes) runs) bytes
 unfolding cut_behind
 parts_behind [] bytes tail some is = absurd (let size = length-append bytes tail in let none : length (bytes ++ tail) ≡ 0 = ap length is in omega (arith, some, size, none))
@@ -174,7 +174,7 @@ cut_stops count left runs i d within less so_far =
     ∙ sym (so_far ∙ ap (λ (l : List Run). take i runs ++ cut_behind left l) (split_at runs i d within)
     ∙ ap (λ (l : List Run). take i runs ++ l) (cut_within left (get_or runs i d) (drop (suc i) runs) less))
 
--- or goes on behind it
+-- or goes on after it
 pub cut_goes : (count left : ℕ) (runs : List Run) (i : ℕ) (d : Run) → i < length runs → (get_or runs i d).length < left
     → cut_behind count runs ≡ take i runs ++ cut_behind left (drop i runs)
     → cut_behind count runs ≡ take (i + 1) runs ++ cut_behind (left - (get_or runs i d).length) (drop (i + 1) runs)
@@ -186,7 +186,7 @@ cut_goes count left runs i d within more so_far =
     ∙ ap (λ (l : List Run). l ++ cut_behind (left - (get_or runs i d).length) (drop (suc i) runs)) (sym (take_at_read runs i d within).1)
     ∙ ap (λ (n : ℕ). take (i + 1) runs ++ cut_behind (left - (get_or runs i d).length) (drop n runs)) next
 
--- or there is none behind
+-- or there is none after
 pub cut_ends : (count left : ℕ) (runs : List Run) (i : ℕ) → length runs ≤ i → cut_behind count runs ≡ take i runs ++ cut_behind left (drop i runs)
     → runs ≡ cut_behind count runs
 cut_ends count left runs i past so_far = sym (
@@ -203,7 +203,7 @@ split_stretches [] i d within = absurd (omega (arith, within))
 split_stretches (stretch ∷ found) zero d within = refl
 split_stretches (stretch ∷ found) (suc i) d within = split_stretches found i d (omega (arith, within))
 
--- a walk along stretches that are cut, at one of them: what is left ends in it, or goes on behind it, or there is none behind
+-- a walk along stretches that are cut, at one of them: what is left ends in it, or goes on after it, or there is none after
 module _ (found : List Stretch) (i : ℕ) (d : Stretch) (skip left : ℕ) (so_far all : List Run) (within : i < length found)
     (is : so_far ++ cut_behind left (cut_front skip (map as_run (drop i found))) ≡ all) where
   abbrev this : Stretch

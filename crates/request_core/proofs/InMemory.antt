@@ -47,7 +47,7 @@ pub record IsAt (offset k j r : ℕ) : Type 0 where
 pub at_place : (offset k : ℕ) → IsAt offset k ((offset + k) / 4096 - offset / 4096) ((offset + k) % 4096)
 at_place offset k = record { block = omega arith; within = refl; place = omega arith; inside = omega arith }
 
--- the block of the byte behind the offset, counted from the offset's, and its place there
+-- the block of the byte after the offset, counted from the offset's, and its place there
 abbrev pub block_from : ℕ → ℕ → ℕ
 block_from offset k = (offset + k) / 4096 - offset / 4096
 

@@ -1,4 +1,4 @@
--- runs of blocks, with a block more behind them
+-- runs of blocks, with a block more after them
 use Rattle.std.proofs.Common.{◌≡◌, ℕ, zero, suc, ◌+◌, ◌==◌, inl, inr, Bool, if◌then◌else◌, List, [], ◌∷◌, ◌++◌, sym, ◌∙◌, ap, refl, arith}
 use Rattle.std.proofs.lemmas.Bool.{cases_Bool, eq-eqb, ne_eqb}
 use Rattle.std.proofs.lemmas.Bool.Decides.{eqb_tells}
@@ -12,7 +12,7 @@ run_of count given = record { length = count; status = given }
 abbrev joined : Bool → ℕ → Run → List Run → List Run
 joined same s run runs = if same then run_of (run.length + 4096) s ∷ runs else run_of 4096 s ∷ run ∷ runs
 
--- a block of this status behind runs: in the last of them, where that one has the same
+-- a block of this status after runs: in the last of them, where that one has the same
 abbrev lengthened : Bool → ℕ → Run → List Run
 lengthened same s run = if same then run_of (run.length + 4096) s ∷ [] else run ∷ run_of 4096 s ∷ []
 
@@ -21,7 +21,7 @@ behind [] s = run_of 4096 s ∷ []
 behind (r ∷ []) s = lengthened (r.status == s) s r
 behind (r ∷ r' ∷ rs) s = r ∷ behind (r' ∷ rs) s
 
--- a block in front and one behind, in whichever order they come
+-- a block in front and one after, in whichever order they come
 of_one : (a s : ℕ) (r : Run) → with_block a (behind (r ∷ []) s) ≡ behind (with_block a (r ∷ [])) s
 unfolding with_block behind
 of_one a s r = elim (eqb_tells r.status s) [

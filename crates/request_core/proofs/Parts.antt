@@ -14,7 +14,7 @@ of_either : {X : Type 0} (P : X → Type 0) (test : Bool) (x y : X) → (test �
 of_either P true x y here there = here refl
 of_either P false x y here there = there refl
 
--- the block in front has its status, and so have the bytes of the run behind it
+-- the block in front has its status, and so have the bytes of the run after it
 both_in_state : (s : ℕ) (first rest : List ℕ) → IsInState s first → IsInState s rest → IsInState s (first ++ rest)
 both_in_state s first rest (inl is) other = inl is
 both_in_state s first rest (inr is) (inl other) = inl other
@@ -24,7 +24,7 @@ both_in_state s first rest (inr is) (inr other) = inr (
       ∙ replicate-append-replicate (length first) (length rest) 0 ∙ ap (λ (n : ℕ). replicate n 0) (sym (length-append first rest)),
 )
 
--- runs that part the bytes behind a block, with that block in front
+-- runs that part the bytes after a block, with that block in front
 parts_with : (s : ℕ) (runs : List Run) (bytes : List ℕ) → 4096 ≤ length bytes → IsInState s (take 4096 bytes) → PartsBytes runs (drop 4096 bytes) → PartsBytes (with_block s runs) bytes
 unfolding with_block
 parts_with s [] bytes whole in_state rest = (omega arith, whole, in_state, rest)

@@ -34,13 +34,13 @@ unlike_first status block (suc count) s other = by_rest (runs_from status (block
         of_either P Bool.true x y here there = here
         of_either P Bool.false x y here there = there
 
--- one block in front of runs in another status
+-- one block before runs in another status
 in_front : (s : ℕ) (runs : List Run) → Unlike s runs → with_block s runs ≡ run_of 4096 s ∷ runs
 unfolding with_block
 in_front s [] unlike = refl
 in_front s (run ∷ runs) unlike = ap (λ (b : Bool). if b then run_of (run.length + 4096) s ∷ runs else run_of 4096 s ∷ run ∷ runs) (ne_eqb run.status s unlike)
 
--- blocks in one status, in front of others
+-- blocks in one status, before others
 stretched : (status : ℕ → ℕ) (block count rest s : ℕ) → ((k : ℕ) → k < suc count → status (block + k) ≡ s) → Unlike s (runs_from status (block + suc count) rest)
     → runs_from status block (suc count + rest) ≡ run_of (suc count * 4096) s ∷ runs_from status (block + suc count) rest
 unfolding runs_from with_block

@@ -29,7 +29,7 @@ use Rattle.export_model.specs.Verdict.{IsServedRange, verdict}
 use Rattle.export_model.specs.declared.action.Action.TheVariants.{Serve}
 
 -- A READ is answered with what an image shows: its states are those of the order, and the bytes of a block those in memory, where
--- it has some, and else those of the data region. Where the keeper holds what the order has clean, it is the order's own image.
+-- it has some, and else those of the data region. If the keeper holds what the order has clean, it is the order's own image.
 pub record IsRead {D : Type 0} (state : D → State) (faults : D → ℕ) (honest : D → Type 0) (head : RequestHead) (old new : OrderState) (keeper next : KeeperState D) (result : Served) : Type 0 where
   pub image : Image
   pub kinds : (block : ℕ) → image.kind block ≡ state_at old.cache.states block
@@ -105,7 +105,7 @@ pub record IsPlanned (head : RequestHead) (geometry : Geometry) (flags : Session
 
 -- A READ for which bytes of a span were read before is answered with what an image shows: its states are those of the order, and the
 -- bytes of a block those in memory, where it has some, and else those handed in, which begin with the block of the first byte; each
--- of these lies in the span. Where those are the base's, and the order has clean what the base has, it is the order's own image.
+-- of these lies in the span. If those are the base's, and the order has clean what the base has, it is the order's own image.
 pub record IsReadOver (head : RequestHead) (span : Span) (bytes : List ℕ) (old new : OrderState) (result : Served) : Type 0 where
   pub works : old.stopped ≡ false
   pub inside : (k : ℕ) → k < head.length → bytes_seen old.cache ((head.offset + k) / 4096) ≡ None → LiesIn ((head.offset + k) / 4096) span

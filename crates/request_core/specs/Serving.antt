@@ -61,7 +61,7 @@ IsWriteServed request geometry kept own old new result =
     ⊎ (IsTaken request geometry own old new image × (result ≡ served_after (waits_for_store kept request) request.head.cookie (old.mark + 1)))))
 
 -- A command was accepted for a pass under a number above all that the pass knew: it is what the request's edit becomes over an image,
--- and the pass's own, one more than before. The history that the pass then knows has it as its last, at its number, behind all that
+-- and the pass's own, one more than before. The history that the pass then knows has it as its last, at its number, after all that
 -- the pass knew.
 pub record IsAcceptedFor (opening : ℕ) (request : Message) (number : ℕ) (old new : PassState) : Type 0 where
   pub above : known old < number

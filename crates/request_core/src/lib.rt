@@ -1,7 +1,7 @@
-//! What becomes of a request: it is judged, and served with the keeper of the device at hand or without.
+//! Requests are validated, and served with the keeper of the device or without it.
 //!
-//! Whoever serves calls the same functions: the threads of a server each under the locks that it needs, and the steps of an
-//! export's world (`export_steps`) one after another.
+//! The threads of a server call these functions, each under the locks that it needs, and so do the steps of an export's world
+//! (`export_steps`), one after another.
 #![tactic(auto)]
 
 mod answers;

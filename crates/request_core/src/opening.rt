@@ -12,8 +12,8 @@ use marks::{BoardName, OrderSeat};
 use order_book::Order;
 use std::alloc::{AllocError, Global};
 
-/// The order of a device that was just opened: over its map, numbered on from the last command that it holds, where its board has
-/// opened, with so many frames. Refusal 0 (no memory).
+/// The order of a device that was just opened: over its map, with `frames` frames. Its numbers go on from the last command that the
+/// device holds, with which its board has opened. Refusal 0 (no memory).
 pub fn fresh_order<B: BoardName, D: Disk>(
     alloc: Global,
     keeper: &Keeper<D>,
@@ -27,7 +27,7 @@ pub fn fresh_order<B: BoardName, D: Disk>(
         × (order ≡ new_order states keeper.now.count frames (area_size_of keeper.now.geometry.layout keeper.now.geometry.area))) }
     ensures few { OnOk result (keeper.now.count < 18446744073709551616) }
 
-    // Where map and data hold all of an image, the order shows it.
+    // If map and data hold all of an image, the order shows it.
     ensures image { (image : Image) → Holds keeper.now (D.state keeper.now.disk) image [] [] → IfOk result (λ order. ShowsImage image order.cache) }
 {
     let map = keeper.map(alloc)?;

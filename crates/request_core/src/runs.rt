@@ -37,7 +37,7 @@ fn status(kind: Kind) -> u32
     }
 }
 
-// The runs of data and holes of so many blocks from the first one on.
+// The runs of data and holes of this many blocks from the first one on.
 fn runs_of_blocks<B: BoardName>(
     alloc: Global,
     order: &Order<B>,
@@ -71,7 +71,7 @@ fn runs_of_blocks<B: BoardName>(
     Ok(runs)
 }
 
-// Cuts runs, of which there is one at least, to so many bytes behind the first ones.
+// Cuts runs, of which there is one at least, to this many bytes after the first ones.
 fn cut(runs: &mut Vec<Run>, skip: u32, count: u32)
     requires some { 0 < length runs.old.items }
     requires within { skip ≤ (slice_index_or runs.old.items 0 (record { length = 0; status = 0 })).length }
@@ -90,7 +90,7 @@ fn cut(runs: &mut Vec<Run>, skip: u32, count: u32)
     }
 }
 
-// The runs of data and holes of so many bytes from the offset on.
+// The runs of data and holes of this many bytes from the offset on.
 pub(crate) fn read_runs<B: BoardName>(
     alloc: Global,
     order: &Order<B>,
@@ -110,7 +110,7 @@ pub(crate) fn read_runs<B: BoardName>(
     Ok(runs)
 }
 
-// The longest runs of one status of the blocks that so many bytes from the offset on touch, the first `limit` of them, cut to
+// The longest runs of one status of the blocks that this many bytes from the offset on touch, the first `limit` of them, cut to
 // these bytes.
 pub(crate) fn status_runs<B: BoardName>(
     alloc: Global,

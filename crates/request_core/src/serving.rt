@@ -259,14 +259,14 @@ fn serve_edit<B: BoardName, D: Disk, T: Trust>(
         Err((OrderFault::NoRoom, edit)) => Served::NoRoom(joined(alloc, head, edit)),
         Err((OrderFault::NoMemory, _)) => refused(head.cookie, Errno::NoMemory),
         Err((OrderFault::NumbersFull, _)) => refused(head.cookie, Errno::NoSpace),
-        // (Each has an arm, since a joined one tells the proof nothing of the fault.)
+        // (Each has an arm, because a joined one tells the proof nothing of the fault.)
         Err((OrderFault::DeviceFault, _)) => failed(order, head.cookie),
         Err((OrderFault::Failed, _)) => failed(order, head.cookie),
         Err((OrderFault::Stopped, _)) => failed(order, head.cookie),
     }
 }
 
-// Stops the order, since a call of the device has failed: the answer is EIO.
+// Stops the order, because a call of the device has failed: the answer is EIO.
 fn failed<B: BoardName>(order: &mut Order<B>, cookie: u64) -> Served
     ensures order { order.new ≡ record order.old { stopped = true } }
     ensures answer { result ≡ ready_for cookie (Answer.Refused Errno.Io) }

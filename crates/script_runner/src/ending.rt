@@ -32,7 +32,7 @@ impl From<AllocError> for End {
 pub fn exit_status<E: Write>(outcome: Result<(), End>, errors: &mut E) -> u8 {
     match outcome {
         Ok(()) => 0,
-        // Where not even that can be written, the status alone tells.
+        // If not even that can be written, the status alone tells.
         Err(End::NotAStep(line)) => {
             let _ = writeln!(errors, "nbdj: line {line}: not a step");
             2

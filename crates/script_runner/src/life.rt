@@ -60,7 +60,7 @@ pub struct BlockRun {
     pub byte: u8,
 }
 
-/// Opens the device, which recovers it. Where `upgrades`, it is made one of layout 2.
+/// Opens the device, which recovers it. If `upgrades`, it is made one of layout 2.
 pub fn keeper_of<D: Disk>(
     alloc: Global,
     disk: D,
@@ -80,7 +80,7 @@ pub fn keeper_of<D: Disk>(
     Keeper::open(alloc, disk)
 }
 
-/// Opens the device, which recovers it, and reads what its blocks hold. Where `upgrades`, it is made one of layout 2.
+/// Opens the device, which recovers it, and reads what its blocks hold. If `upgrades`, it is made one of layout 2.
 pub fn open<D: Disk>(
     alloc: Global,
     disk: D,
@@ -138,7 +138,7 @@ fn first_byte<D: Disk>(keeper: &mut Keeper<D>, block: u64, kind: Kind) -> Result
     Ok(bytes[0])
 }
 
-/// A device from one opening to the next crash. It can't be let go, since a group may be in hand: it is spent by `end`.
+/// A device from one opening to the next crash. It can't be let go, because a group may be in hand: it is spent by `end`.
 ///
 /// On a device that keeps to the model it is always one of a world.
 pub struct Life<B: BoardName, D: Disk> {
@@ -181,8 +181,8 @@ fn first_parts<B: BoardName, D: Disk>(
 }
 
 impl<B: BoardName, D: Disk> Life<B, D> {
-    /// A life of the device of a keeper that was opened, over a board that gets its name here. Where memory is refused the
-    /// device is handed back.
+    /// A life of the device of a keeper that was opened, over a board that gets its name here. If memory runs out, the device
+    /// is handed back.
     pub fn begin(
         alloc: Global,
         blank: BlankBoard,
@@ -277,7 +277,7 @@ impl<B: BoardName> Life<B, SimDisk> {
     }
 }
 
-// Adds the block behind the runs: to the last of them, or as a run of its own.
+// Adds the block after the runs: to the last of them, or as a run of its own.
 fn add_block(runs: &mut Vec<BlockRun>, first: u64, kind: Kind, byte: u8) -> Result<(), AllocError> {
     if let Some(run) = runs.last_mut()
         && run.kind == kind

@@ -109,7 +109,7 @@ fn gather<R: Read + Drop>(
     Err(End::Refused(Refusal::StreamFault))
 }
 
-/// Adds one behind the others.
+/// Adds one after the others.
 pub fn keep<T: Drop>(all: &mut Vec<T>, next: T) -> Result<(), AllocError> {
     all.push(next)?;
     Ok(())

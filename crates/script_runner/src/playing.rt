@@ -131,7 +131,7 @@ fn arm<B: BoardName>(life: &mut Life<B, SimDisk>, trouble: Trouble)
     }
 }
 
-// Carries out the lines, until the device stops or so many steps were done. The one refusal is want of memory.
+// Carries out the lines, until the device stops or this many steps were done. The one refusal is want of memory.
 fn carry_out_all<B: BoardName>(
     alloc: Global,
     life: &mut Life<B, SimDisk>,

@@ -161,7 +161,7 @@ impl Course {
     }
 }
 
-// Prints what the opening found of a device with so many commands, and carries out the lines up to the life's end; none if they
+// Prints what the opening found of a device with this many commands, and carries out the lines up to the life's end; none if they
 // end first.
 fn carry_out_all<B: BoardName, R: Read, W: Write>(
     alloc: Global,
@@ -349,7 +349,7 @@ fn print_answer<W: Write>(
     }
 }
 
-// Prints what an opening found of a device with so many commands; none where it is new.
+// Prints what an opening found of a device with this many commands; none where it is new.
 fn print_found<W: Write>(
     count: u64,
     found: &Option<Vec<BlockRun>>,

@@ -11,7 +11,7 @@ use std::str;
 /// The most connections of a script, which name them from 1 on.
 pub const CONNECTIONS: usize = 16;
 
-// The most bytes that a WRITE may announce: so many a server reads.
+// The most bytes that a WRITE may announce: a server reads no more.
 const MOST_WRITTEN: u32 = 33_554_432;
 
 /// A line of a script, by `docs/FORMATS.md`.
@@ -49,7 +49,7 @@ pub enum StepLine {
     Append,
     Publish,
     Rotate,
-    /// So many steps of copying, or as many as there are.
+    /// This many steps of copying, or as many as there are.
     Copy(u64),
     Map,
     Finish,
@@ -145,7 +145,7 @@ fn crash(operands: &[&str]) -> Option<Line> {
     }
 }
 
-// How a device is made, by the words behind its sizes.
+// How a device is made, by the words after its sizes.
 fn ways_of(words: &[&str]) -> Option<(Mode, Layout)> {
     let (mode, words) = match words {
         ["writethrough", rest @ ..] => (Mode::Writethrough, rest),
@@ -190,7 +190,7 @@ fn step_alone(word: &str) -> Option<StepLine> {
     None
 }
 
-// A step of a connection, or so many copies.
+// A step of a connection, or this many copies.
 fn step_with(word: &str, operand: &str) -> Option<StepLine> {
     match word {
         "serve" => Some(StepLine::Serve(connection_of(operand)?)),
@@ -324,7 +324,7 @@ fn bytes_of(offset: &str, length: &str, fua: bool) -> Option<Range> {
     range_of(offset, length, 1, fua)
 }
 
-// The range from a place on, both in units of so many bytes, if its length has 32 bits.
+// The range from a place on, both in units of `unit` bytes, if its length fits 32 bits.
 fn range_of(from: &str, count: &str, unit: u64, fua: bool) -> Option<Range> {
     let offset = scaled(from, unit)?;
     let length = u32::try_from(scaled(count, unit)?).ok()?;
@@ -335,7 +335,7 @@ fn range_of(from: &str, count: &str, unit: u64, fua: bool) -> Option<Range> {
     })
 }
 
-// The bytes of so many units.
+// The bytes of `count` units.
 fn scaled(count: &str, unit: u64) -> Option<u64> {
     number_of(count)?.checked_mul(unit)
 }

@@ -52,7 +52,7 @@ fn step_of(alloc: Global, line: StepLine, cookie: u64) -> Result<Step, AllocErro
     })
 }
 
-// Copies up to so many blocks. It is held where there is none to copy.
+// Copies up to this many blocks. It is held where there is none to copy.
 fn copy<B: BoardName>(life: &mut Life<B, SimDisk>, most: u64) -> Told
     ensures { ⟦<SimDisk as Disk>⟧.extent life.new.keeper.disk ≡ ⟦<SimDisk as Disk>⟧.extent life.old.keeper.disk }
 {

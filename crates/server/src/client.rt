@@ -51,9 +51,9 @@ impl Client {
         }
     }
 
-    /// Ends its input, its output or both. A read that waits finds the end; and who waits at a listener that is shut wakes.
+    /// Ends its input, its output or both. A read that waits finds the end, and a thread that waits at a listener that is shut wakes.
     pub(crate) fn shut_down(&self, how: Shutdown) {
-        // Where it fails the client has gone.
+        // If it fails the client has gone.
         let _ = match self {
             Client::Tcp(stream) => stream.shutdown(how),
             Client::Unix(stream) => stream.shutdown(how),
@@ -118,7 +118,7 @@ impl<'a> Output<'a> {
         self.held.get(self.sent..).unwrap_or(&[])
     }
 
-    // Notes that so many bytes of what is held are sent.
+    // Notes that this many bytes of what is held are sent.
     fn note_sent(&mut self, count: usize) {
         self.sent = self.sent.saturating_add(count);
         if self.sent >= self.held.len() {

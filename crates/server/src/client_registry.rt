@@ -140,14 +140,14 @@ impl Places {
     }
 }
 
-// A socket at which clients arrive, and a handle of it that wakes who waits there.
+// A socket at which clients arrive, and a handle of it that wakes the thread that waits there.
 #[derive(Drop)]
 struct Door {
     listener: Listener,
     wake: Option<Client>,
 }
 
-/// Where clients arrive and are served, until it is closed.
+/// The clients that arrive and are served, until it is closed.
 #[derive(Drop)]
 pub(crate) struct ClientRegistry {
     doors: Vec<Door>,
@@ -162,7 +162,7 @@ pub(crate) struct ClientRegistry {
 }
 
 impl ClientRegistry {
-    /// For the clients of these listeners, with so many workers.
+    /// For the clients of these listeners, with `workers` workers.
     pub(crate) fn new(
         alloc: Global,
         listeners: Vec<Listener>,
@@ -197,7 +197,7 @@ impl ClientRegistry {
         }
     }
 
-    /// Waits a little before the next client, since one couldn't be accepted.
+    /// Waits a little before the next client, because one couldn't be accepted.
     pub(crate) fn pause<R: Clock>(&self, rt: &R) {
         thread::sleep(rt, Duration::from_millis(PAUSE));
     }

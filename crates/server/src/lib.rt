@@ -1,4 +1,4 @@
-//! The server: clients of one image over sockets, each served by a worker, beside a flusher and a checkpointer.
+//! The server: clients of one image over sockets, each served by a worker, with a flusher and a checkpointer.
 #![tactic(auto)]
 
 mod client;

@@ -65,7 +65,7 @@ impl Listener {
         }
     }
 
-    /// The same socket, as one whose shutting wakes who waits at it. A shared one isn't shut: its waits are short.
+    /// The same socket, to be shut, which wakes a thread that waits at it. A shared one isn't shut: its waits are short.
     pub(crate) fn shutdown_handle(&self) -> io::Result<Option<Client>> {
         let handle = match &self.socket {
             Socket::Tcp(listener) => {

@@ -69,7 +69,7 @@ pub trait Watched {
     fn cut_off(&self);
 }
 
-/// Who is told what happens, who answers those that ask for figures, and who guards the device.
+/// Is told what happens, answers clients that ask for figures, and guards the device.
 pub trait Log {
     /// Clients are served from now on: all threads are there. If this can't be told the server ends.
     fn announce(&self) -> io::Result<()>;

@@ -6,7 +6,7 @@ use std::io::{self, ErrorKind, Read, Write};
 use std::net::{Ipv4Addr, SocketAddr, TcpStream};
 use std::time::Duration;
 
-// So many seconds are more than a group is held.
+// This many seconds are more than a group is held.
 const PATIENCE: u64 = 20;
 
 #[derive(Drop)]

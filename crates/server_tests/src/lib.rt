@@ -1,4 +1,4 @@
-//! A test of the server over loopback sockets, with both ends in one process. It stands beside it, since a crate with tests is proved
+//! A test of the server over loopback sockets, with both ends in one process. It stands beside it, because a crate with tests is proved
 //! twice.
 #![tactic(auto)]
 

@@ -21,7 +21,7 @@ use std::sync::atomic::{AtomicBool, AtomicU64, Ordering};
 use std::thread::{self, Threads};
 use std::time::Duration;
 
-// For so many turns of a millisecond a group is held, and waited for.
+// For this many turns of a millisecond a group is held, and waited for.
 const TURNS: u64 = 10_000;
 
 // What the threads of a server have come to.
@@ -185,7 +185,7 @@ fn run<R: Threads + Wait + Clock + Copy + Send + Sync + Drop + 'static>(
             return None;
         };
         let clients = write_beside_a_held_one(rt, port, seen);
-        // Where a client gave up the server still waits for its sessions.
+        // If a client gave up the server still waits for its sessions.
         for _ in 0..2 {
             let _ = TcpStream::connect(rt, SocketAddr::from((Ipv4Addr::LOCALHOST, port)));
         }

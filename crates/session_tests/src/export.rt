@@ -62,7 +62,7 @@ impl<'a> Serve<u64> for Counted<'a> {
     }
 }
 
-// What a READ of so many bytes is answered, 1 MiB at most.
+// What a READ of this many bytes is answered, 1 MiB at most.
 fn read(alloc: Global, length: u32) -> Result<ReadBytes, AllocError> {
     let length = length.clamp(1, 1_048_576);
     ReadBytes::data(alloc, 0, vec![in alloc; 0x41; length as usize]?)

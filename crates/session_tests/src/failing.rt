@@ -1,7 +1,7 @@
 use std::io::{self, ErrorKind, Read, Write};
 use stream_fakes::{FakeReader, FakeWriter};
 
-/// A stream of which one call fails, and those behind it work again.
+/// A stream of which one call fails, and those after it work again.
 pub struct FailsOnce<S> {
     pub stream: S,
     before: usize,
@@ -22,7 +22,7 @@ impl<S: Drop> Drop for FailsOnce<S> {
 }
 
 impl<S> FailsOnce<S> {
-    /// The same stream, whose next call fails behind so many that work.
+    /// The same stream, whose next call fails after this many that work.
     pub fn new(stream: S, before: usize) -> FailsOnce<S> {
         FailsOnce {
             stream,
@@ -37,7 +37,7 @@ impl<S> FailsOnce<S> {
         self.failed
     }
 
-    /// How many calls came behind it.
+    /// How many calls came after it.
     pub fn behind(&self) -> usize {
         self.behind
     }

@@ -1,4 +1,4 @@
-//! Tests of whole sessions over streams, against bytes written by hand. They stand beside their crate, since a crate with
+//! Tests of whole sessions over streams, against bytes written by hand. They stand beside their crate, because a crate with
 //! tests is proved twice.
 #![tactic(auto)]
 

@@ -15,7 +15,7 @@ const HANDSHAKE: &str = "4e42444d41474943 49484156454f5054 0003
      0003e889045565a9 00000007 00000003 0000000e 0003 00000001 00001000 00100000
      0003e889045565a9 00000007 00000001 00000000";
 
-// Such a client, which sends a WRITE of 1 MiB, a FLUSH and a DISC. The data begin behind 56 bytes.
+// Such a client, which sends a WRITE of 1 MiB, a FLUSH and a DISC. The data begin after 56 bytes.
 fn input(alloc: Global) -> Result<Vec<u8>, AllocError> {
     let mut input = bytes_of(
         alloc,
@@ -66,7 +66,7 @@ fn a_long_write_that_is_interrupted_is_read_on(rt: HostRuntime) -> Result<(), Fa
     Ok(())
 }
 
-// The input ends behind so many bytes, or fails there.
+// The input ends after this many bytes, or fails there.
 fn is_cut(rt: &impl Abort, alloc: Global, cut: usize, fails: bool) -> Result<(), Fail> {
     let wanted = if fails { End::IoFault } else { End::PeerClosed };
     let input = input(alloc)?;
@@ -83,7 +83,7 @@ fn is_cut(rt: &impl Abort, alloc: Global, cut: usize, fails: bool) -> Result<(),
 
 #[test]
 fn a_long_write_that_is_cut_is_not_served(rt: HostRuntime) -> Result<(), Fail> {
-    // Within the first piece, behind it, in the room that is lent, and before the last byte.
+    // Within the first piece, after it, in the room that is lent, and before the last byte.
     for cut in [56, 65_536, 65_537, 600_000, 1_048_631] {
         is_cut(&rt, rt.alloc(), cut, false)?;
         is_cut(&rt, rt.alloc(), cut, true)?;

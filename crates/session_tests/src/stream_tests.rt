@@ -41,7 +41,7 @@ fn output(alloc: Global) -> Result<Vec<u8>, AllocError> {
     )
 }
 
-// Where each message of the input ends, and how many bytes of the output are due by then.
+// The end of each message of the input, and how many bytes of the output are due by then.
 const DUE: [(usize, usize); 8] = [
     (0, 18),
     (20, 38),
@@ -99,7 +99,7 @@ fn a_call_that_is_interrupted_is_begun_again(rt: HostRuntime) -> Result<(), Fail
     Ok(())
 }
 
-// The input ends behind so many bytes, or fails there: what was due for the messages before is written, and no more.
+// The input ends after this many bytes, or fails there: what was due for the messages before is written, and no more.
 fn is_cut(rt: &impl Abort, alloc: Global, cut: usize, fails: bool) -> Result<(), Fail> {
     let wanted = if fails { End::IoFault } else { End::PeerClosed };
     let input = input(alloc)?;
@@ -127,7 +127,7 @@ fn an_input_that_ends_or_fails_is_told(rt: HostRuntime) -> Result<(), Fail> {
     Ok(())
 }
 
-// The writer has room for so many bytes.
+// The writer has room for this many bytes.
 fn is_narrow(rt: &impl Abort, alloc: Global, room: usize) -> Result<(), Fail> {
     let input = input(alloc)?;
     let served = serve(
@@ -152,7 +152,7 @@ fn a_write_that_fails_ends_a_session(rt: HostRuntime) -> Result<(), Fail> {
     Ok(())
 }
 
-// The read behind so many of 7 bytes fails, and those behind it would work: what was due by then is written, and no more,
+// The read after this many of 7 bytes fails, and those after it would work: what was due by then is written, and no more,
 // and nothing more is read.
 fn is_over_at_read(rt: &impl Abort, alloc: Global, reads: usize) -> Result<(), Fail> {
     let input = input(alloc)?;
@@ -177,7 +177,7 @@ fn a_read_that_fails_once_ends_a_session(rt: HostRuntime) -> Result<(), Fail> {
     Ok(())
 }
 
-// The write behind so many of 7 bytes at most fails, if there are so many, and those behind it would work: nothing more is
+// The write after this many of 7 bytes at most fails, if there are this many, and those after it would work: nothing more is
 // written. Whether it was met.
 fn is_over_at_write(rt: &impl Abort, alloc: Global, writes: usize) -> Result<bool, Fail> {
     let input = input(alloc)?;
@@ -211,7 +211,7 @@ fn a_write_that_fails_once_ends_a_session(rt: HostRuntime) -> Result<(), Fail> {
     Ok(())
 }
 
-// A byte of the input is another: the session ends behind what was due for the messages before it.
+// A byte of the input is another: the session ends after what was due for the messages before it.
 fn is_broken(rt: &impl Abort, alloc: Global, place: usize) -> Result<(), Fail> {
     let mut input = input(alloc)?;
     if let Some(byte) = input.get_mut(place) {
@@ -250,7 +250,7 @@ fn a_wrong_magic_ends_a_session(rt: HostRuntime) -> Result<(), Fail> {
     Ok(())
 }
 
-// A client that sends this ends its session so, and what comes behind it isn't read.
+// A client that sends this ends its session so, and what comes after it isn't read.
 fn is_left(rt: &impl Abort, alloc: Global, row: &str, end: Result<(), End>) -> Result<(), Fail> {
     let first = bytes_of(alloc, row)?;
     let behind = [0x25; 100];

@@ -24,7 +24,7 @@ const HANDSHAKE: &str = "4e42444d41474943 49484156454f5054 0003
      0003e889045565a9 00000007 00000003 0000000e 0003 00000001 00001000 00100000
      0003e889045565a9 00000007 00000001 00000000";
 
-// A session whose requests come together makes so many writes, the first two for the greeting and for the options.
+// A session whose requests come together makes this many writes, the first two for the greeting and for the options.
 fn has_writes(rt: &impl Abort, alloc: Global, requests: &str, writes: usize) -> Result<(), Fail> {
     let mut input = begins(alloc, requests)?;
     input.extend_from_slice(&bytes_of(alloc, DISC)?)?;
@@ -114,7 +114,7 @@ fn writes_too_much(alloc: Global, then: &str) -> Result<Vec<u8>, AllocError> {
     Ok(input)
 }
 
-// It is answered EINVAL, and what comes behind it ends the session so.
+// It is answered EINVAL, and what comes after it ends the session so.
 fn is_thrown_away(
     rt: &impl Abort,
     alloc: Global,
@@ -180,7 +180,7 @@ fn told(alloc: Global, read: &str) -> Result<Vec<u8>, AllocError> {
     Ok(text)
 }
 
-// How much may be written once so many requests were answered, by the text with the bytes of the READ.
+// How much may be written once this many requests were answered, by the text with the bytes of the READ.
 fn most_told(whole: usize, answered: u64) -> usize {
     match answered {
         0 => whole.saturating_sub(16 + 30 + 16),
@@ -190,7 +190,7 @@ fn most_told(whole: usize, answered: u64) -> usize {
     }
 }
 
-// Where memory is refused in the session, it ends so. What is written begins the dialog, with no byte of a reply to a
+// If memory is refused in the session, it ends so. What is written begins the dialog, with no byte of a reply to a
 // request that wasn't answered.
 #[test]
 fn refused_memory_ends_a_session(rt: HostRuntime) -> Result<(), Fail> {

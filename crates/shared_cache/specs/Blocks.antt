@@ -93,7 +93,7 @@ abbrev pub count_missing : ℕ → ℕ → BlocksState → ℕ
 count_missing first zero blocks = 0
 count_missing first (suc count) blocks = (if is_dirty first blocks then 0 else 1) + count_missing (first + 1) count blocks
 
--- how many of the edges of a range aren't dirty: so many blocks at its head, and so many at its tail
+-- how many of the edges of a range aren't dirty: this many blocks at its head, and this many at its tail
 abbrev pub edges_missing : ℕ → ℕ → ℕ → ℕ → BlocksState → ℕ
 edges_missing first count head tail blocks = count_missing first head blocks + count_missing (first + count - tail) tail blocks
 

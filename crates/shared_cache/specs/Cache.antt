@@ -47,7 +47,7 @@ with_edges number first count kind head tail cache =
     let behind = first + count - length tail in
     with_written number behind tail (with_written number first head (with_cleared between (behind - between) kind cache))
 
--- One of so many blocks from the first one on is data, and no frame holds it.
+-- One of this many blocks from the first one on is data, and no frame holds it.
 abbrev pub LacksBytes : CacheState → ℕ → ℕ → Type 0
 LacksBytes cache first count =
     (k : ℕ) × (k < count) × (state_at cache.states (first + k) ≡ Data) × (is_held (first + k) cache.blocks ≡ false)

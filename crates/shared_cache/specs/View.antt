@@ -9,7 +9,7 @@ use Rattle.shared_cache.specs.Blocks.{DirtyBlock, is_dirty, is_held}
 use Rattle.shared_cache.specs.Cache.{CacheState, bytes_seen}
 
 -- The bytes of a block are those that they were, or they are in memory no more: its frame was clean, and was taken since
--- fewer frames were free than are wanted for so many blocks.
+-- fewer frames were free than are wanted for this many blocks.
 abbrev pub KeepsBytes : ℕ → CacheState → CacheState → ℕ → Type 0
 KeepsBytes count old new block =
     (bytes_seen new block ≡ bytes_seen old block)
@@ -32,7 +32,7 @@ pub record ShowsClear (first count : ℕ) (kind : Kind) (old new : CacheState) :
   pub others : (block : ℕ) → covers first count block ≡ false → bytes_seen new block ≡ bytes_seen old block
   pub dirty : (block : ℕ) → covers first count block ≡ false → is_dirty block new.blocks ≡ is_dirty block old.blocks
 
--- whether a block is one of the edges of a range: so many blocks at its head, and so many at its tail
+-- whether a block is one of the edges of a range: this many blocks at its head, and this many at its tail
 abbrev pub is_edge : ℕ → ℕ → ℕ → ℕ → ℕ → Bool
 is_edge first count head tail block = covers first head block || covers (first + count - tail) tail block
 

@@ -39,7 +39,7 @@ impl Model for Cache {
 }
 
 impl Cache {
-    /// A cache of so many frames, which are free, over an image with these states. Refusal 0 (no memory).
+    /// A cache of `frames` frames, all of them free, over an image with these states. Refusal 0 (no memory).
     pub fn new(alloc: Global, map: AllocMap, frames: u32) -> Result<Cache, AllocError>
         requires frames { frames + 3 < 2 ^ 31 }
         requires few { length map ≤ 16777216 }
@@ -71,13 +71,13 @@ impl Cache {
         self.held.held_blocks()
     }
 
-    /// Whether so many blocks from the first one on find frames, beside the blocks that are dirty.
+    /// Whether there are frames for `count` blocks from `first` on, in addition to the blocks that are dirty.
     pub fn has_frames(&self, first: u64, count: u64) -> bool
         requires range { first + count ≤ length self.now.states }
         ensures enough { IsTrue result ↔ (count_missing first count self.now.blocks ≤ at_hand self.now.blocks) }
         ensures once { IsOnce self.now.blocks }
     {
-        // Where as many frames are at hand as there are blocks, none has to be looked up.
+        // If there are as many available frames as blocks, none has to be looked up.
         let at_hand = self.held.at_hand();
         count <= at_hand || self.held.count_missing(first, count) <= at_hand
     }
@@ -109,7 +109,7 @@ impl Cache {
         Ok(())
     }
 
-    /// Gives so many blocks from the first one on this state, and frees their frames.
+    /// Gives `count` blocks from `first` on this state, and frees their frames.
     pub fn clear(&mut self, first: u64, count: u64, kind: Kind)
         requires range { first + count ≤ length self.old.states }
         requires kind { kind ≢ Kind.Data }
@@ -123,8 +123,8 @@ impl Cache {
         self.map.set_range(first, count, kind);
     }
 
-    /// Whether the edges of a range find frames, beside the blocks that are dirty: so many blocks at its head, and so many at
-    /// its tail.
+    /// Whether there are frames for the edges of a range, in addition to the blocks that are dirty: `head` blocks at its start,
+    /// and `tail` at its end.
     pub fn has_frames_at_edges(&self, first: u64, count: u64, head: u64, tail: u64) -> bool
         requires range { first + count ≤ length self.now.states }
         requires edges { head + tail ≤ count }
@@ -136,10 +136,9 @@ impl Cache {
         at_head + at_tail <= self.held.at_hand()
     }
 
-    /// Clears so many blocks from the first one on but for the edges, which are written with the number of their command:
-    /// the first blocks with those of `head`, the last with those of `tail`. What lies between frees its frames first.
-    /// It is refused with 13 (no frame) exactly where a put of the edges alone would be, and with 0 (no memory); where it is
-    /// refused nothing has changed.
+    /// Clears `count` blocks from `first` on but for the edges, which are written with the number of their command: the first
+    /// blocks with those of `head`, the last with those of `tail`. The blocks between free their frames first. Refusals 13 (no
+    /// frame), exactly when a put of the edges alone would get it, and 0 (no memory); both change nothing.
     pub fn clear_between(
         &mut self,
         number: u64,

@@ -35,7 +35,7 @@ impl Model for Held {
 }
 
 impl Held {
-    // So many frames that hold no blocks, with room in the index for a block of each.
+    // This many frames that hold no blocks, with room in the index for a block of each.
     pub fn new(alloc: Global, frames: u32) -> Result<Held, AllocError>
         requires { frames + 3 < 2 ^ 31 }
         ensures blocks { IfOk result (λ held. blocks_of held.pool held.blocks ≡ record { free = frames; clean = []; dirty = [] }) }
@@ -49,7 +49,7 @@ impl Held {
         })
     }
 
-    // Makes room for so many blocks more.
+    // Makes room for this many blocks more.
     pub fn reserve(&mut self, count: usize) -> Result<(), AllocError>
         ensures room { OnOk result (count ≤ self.new.spare) }
         ensures enough { count ≤ self.old.spare → OnErr result ⊥ }
@@ -241,7 +241,7 @@ impl Held {
         }
     }
 
-    // How many of so many blocks from the first one on aren't dirty.
+    // How many of this many blocks from the first one on aren't dirty.
     pub fn count_missing(&self, first: u64, count: u64) -> u64
         requires { first + count < 2 ^ 64 }
         ensures count { result ≡ count_missing first count (blocks_of self.now.pool self.now.blocks) }
@@ -299,7 +299,7 @@ impl Held {
         }
     }
 
-    // Lets go of so many blocks from the first one on, by as many steps as there are blocks in the range, or frames.
+    // Lets go of this many blocks from the first one on, by as many steps as there are blocks in the range, or frames.
     pub fn release_blocks(&mut self, first: u64, count: u64)
         requires range { first + count < 2 ^ 64 }
         requires held { IsHeld self.old }
@@ -314,7 +314,7 @@ impl Held {
         }
     }
 
-    // Lets go of so many blocks from the first one on, by a look at each of them.
+    // Lets go of this many blocks from the first one on, by a look at each of them.
     fn release_range(&mut self, first: u64, count: u64)
         requires range { first + count < 2 ^ 64 }
         requires held { IsHeld self.old }
@@ -341,7 +341,7 @@ impl Held {
         }
     }
 
-    // Lets go of a block, where it is one of so many from the first one on.
+    // Lets go of a block, if it is one of `count` blocks from `first` on.
     fn release_inside(&mut self, block: u64, first: u64, count: u64)
         requires range { first + count < 2 ^ 64 }
         requires held { IsHeld self.old }

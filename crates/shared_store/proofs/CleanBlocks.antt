@@ -18,8 +18,8 @@ none_both p (x ∷ xs) ys none =
     let parts = or_parts (p x) (list_any p (xs ++ ys)) none in
     let rest = none_both p xs ys parts.1 in ((λ i. parts.0 i || rest.0 i), rest.1)
 
--- Over an image some commands are in map and data, others stand in the areas in front of the last, and all of these and more come
--- behind those whose frames were let go.
+-- Over an image some commands are in map and data, others stand in the areas before the last, and all of these and more come
+-- after those whose frames were let go.
 module _ (limit number : ℕ) (from : Image) (between front later : List Change) (are : AreChanges limit (between ++ (front ++ later))) where
   abbrev behind : List Change
   behind = between ++ (front ++ later)

@@ -59,7 +59,7 @@ none_to_finish One one time = time
 none_to_finish (Copying left) one time = time
 none_to_finish Mapped one time = cc
 
--- one more area stands behind others
+-- one more area stands after others
 ends-push : (number : ℕ) (fronts : List (List Change)) (last : List Change) → ends_of number (fronts ++ last ∷ []) ≡ ends_of number fronts ++ (number + length (joined fronts) + length last) ∷ []
 ends-push number [] last = ap (λ (n : ℕ). n ∷ []) (omega arith)
 ends-push number (front ∷ fronts) last =
@@ -582,7 +582,7 @@ module _ {D : Type 0} (state : D → State) (honest : D → Type 0) (opening : �
         let stands = stands_longer opening image seat.history new.history keeper.count content (leaves_all seat keeper is sure content left) grows in
         record { stored = stands.stored; begins = stands.begins; reaches = (let reaches = stands.reaches in omega (arith, reaches, less)); stands = stands.stands }
 
--- what stands with so many commands does so with fewer
+-- what stands with this many commands does so with fewer
 stands_fewer : (opening : ℕ) (image : Image) (history : List Change) (least fewer : ℕ) (content : List ℕ) → fewer ≤ least → StandsWithin opening image history least content → StandsWithin opening image history fewer content
 stands_fewer opening image history least fewer content less is =
     record { stored = is.stored; begins = is.begins; reaches = (let reaches = is.reaches in omega (arith, reaches, less)); stands = is.stands }

@@ -1,4 +1,4 @@
--- what a request is answered of an image
+-- Answers that show an image.
 use Rattle.std.specs.Prelude.{◌≡◌}
 use Rattle.image_model.specs.Image.{Image}
 use Rattle.nbd_wire.specs.declared.head.RequestHead.{RequestHead}

@@ -1,4 +1,4 @@
--- what comes back of a group that wasn't stored, and what is left then
+-- The outcome for a group that wasn't stored, and the keeper after it.
 use Rattle.std.specs.Prelude.{ℕ, ◌≡◌, ◌≢◌, ◌+◌, ◌⊎◌, true, false}
 use Rattle.checkpoint.specs.Keeper.{refused_by}
 use Rattle.checkpoint.specs.declared.fault.KeeperFault.TheVariants as fault

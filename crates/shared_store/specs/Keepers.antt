@@ -1,4 +1,4 @@
--- what lies under the keeper's lock
+-- The state under the keeper lock.
 use Rattle.std.specs.Prelude.{ℕ, ◌≡◌, ◌+◌, ◌≤◌, true, false, List, [], ◌∷◌, ◌++◌, length}
 use mathlib.Core.List.{IsPrefix}
 use Rattle.device_image.specs.Holds.{Holds, joined}
@@ -18,14 +18,14 @@ pub record SeatedState (D : Type 0) : Type 0 where
 abbrev pub empty_device : State
 empty_device = record { seen = []; unsynced = λ place. ⊥; loose = λ place. ⊥; moment = 0; left_since = λ moment content. ⊥ }
 
--- the numbers of the last commands in areas that hold these, one area behind another, where the last one in front has this number
+-- the numbers of the last commands in areas that hold these, one area after another, where the last one in front has this number
 abbrev pub ends_of : ℕ → List (List Change) → List ℕ
 ends_of number [] = []
 ends_of number (front ∷ fronts) = (number + length front) ∷ ends_of (number + length front) fronts
 
--- What the keeper has stored is the beginning of the history that its seat knows: what map and data hold, what stands in each of the
--- areas in front of the last, and what stands in the last. Where the device is trusted, the keeper holds just these over the image as it
--- was at the opening; and once a call of the device has failed, whatever a crash may leave has at least these.
+-- What the keeper has stored is a prefix of the history that its seat knows: what map and data hold, then what stands in each area
+-- before the last, then what stands in the last. If the device is trusted, the keeper holds just these commands over the image of
+-- the opening; after a device fault, whatever a crash leaves has at least these.
 pub record IsOfHistory {D : Type 0} (state : D → State) (honest : D → Type 0) (opening : ℕ) (image : Image) (trusted : Type 0) (seat : KeeperKnows) (keeper : KeeperState D) : Type 0 where
   pub copied : List Change
   pub fronts : List (List Change)
@@ -43,11 +43,11 @@ pub record IsOfHistory {D : Type 0} (state : D → State) (honest : D → Type 0
   pub seat_durable : seat.durable ≤ keeper.count
   pub seat_base : seat.base ≡ keeper.base
 
--- Whatever a crash at some moment from the opening on may have left stands for the image after a beginning of the history.
+-- A crash at any moment from the opening on leaves the image after a prefix of the history.
 abbrev pub HasLeft : State → State → ℕ → Image → List Change → Type 0
 HasLeft start now opening image history = LeavesOnly start now (StandsWithin opening image history opening)
 
--- What the keeper has stored begins the history, and where the device is trusted so did all that a crash may have left since the
+-- What the keeper has stored is a prefix of the history. If the device is trusted, so is all that a crash may have left since the
 -- opening.
 pub record KeepsHistory {D : Type 0} (state : D → State) (honest : D → Type 0) (opening : ℕ) (image : Image) (start : State) (trusted : Type 0) (seat : KeeperKnows) (keeper : KeeperState D) : Type 0 where
   pub stored : IsOfHistory state honest opening image trusted seat keeper

@@ -1,4 +1,4 @@
--- what a log that a board keeps says of an order, and what a client asks of that
+-- What a board's log says of an order, and what a client asks of the order.
 use Rattle.std.specs.Prelude.{ℕ, ◌≡◌, true}
 use Rattle.export_model.specs.declared.connection.Connection.TheVariants.{Requested}
 use Rattle.export_model.specs.declared.step.Mode.{Mode}
@@ -7,8 +7,8 @@ use Rattle.marks.specs.declared.view.Client.{Client}
 use Rattle.nbd_wire.specs.Request.{Message}
 use Rattle.shared_store.specs.Orders.{IsRight, SpanRead}
 
--- The log is of this mode and of the image as it was at the opening. Whoever trusts the log trusts the device, and that each read with no
--- lock held is right for which a second handle has vouched.
+-- The log is of this mode and of the image of the opening. To trust the log is to trust the device, and that each read without a lock
+-- is right that a second handle has vouched for.
 pub record IsLogOf (opening : ℕ) (first : Image) (vouches : SpanRead → Type 0) (sure : Type 0) (kept : Mode) (trusted : Type 0) (mode : Mode) (image : Image) : Type 0 where
   pub mode_is : mode ≡ kept
   pub image_is : image ≡ first

@@ -1,4 +1,4 @@
--- what lies under the order's lock
+-- The state under the order lock.
 use Rattle.std.specs.Prelude.{ℕ, ◌≡◌, ◌+◌, ◌-◌, ◌*◌, ◌<◌, ◌≤◌, false, List, [], ◌∷◌, ◌++◌, length, map, drop, take, None, slice_index}
 use Rattle.device_image.specs.Holds.{is_written}
 use Rattle.image_model.specs.Change.{AreChanges, Change, change_of}
@@ -11,9 +11,9 @@ use Rattle.order_book.specs.Shown.{ShowsImage}
 use Rattle.order_book.specs.declared.span.Span.{Span}
 use Rattle.shared_cache.specs.Cache.{bytes_seen}
 
--- The order's history begins with what was sealed, and what is pending is its end; what memory shows is the image as it was at the
--- opening after all of it, where the device is trusted. The dirty blocks are those of the commands behind a number, up to which map
--- and data have all, and which the base that it has noted reaches.
+-- The order's history is what was sealed, and then what is pending. If the device is trusted, memory shows the image of the opening
+-- after the whole history. The dirty blocks are those of the commands after some number, which is at most the noted base: up to it
+-- map and data have all commands.
 pub record IsOrderOfHistory (opening : ℕ) (image : Image) (trusted : Type 0) (order : OrderState) : Type 0 where
   pub mark : order.mark ≡ opening + length order.history
   pub blocks : length order.cache.states ≡ image.blocks
@@ -29,22 +29,22 @@ pub record IsOrderOfHistory (opening : ℕ) (image : Image) (trusted : Type 0) (
   pub settled : opening + length clean ≤ order.base
   pub noted : order.base ≤ order.mark
 
--- The base that an order has noted: the image of the opening after the commands up to its number. And the commands behind that.
+-- The image at the noted base: that of the opening, after the commands up to the base's number. Then the commands after the base.
 abbrev pub noted_base : ℕ → Image → OrderState → Image
 noted_base opening image order = apply_all (take (order.base - opening) order.history) image
 
 abbrev pub behind_noted : ℕ → OrderState → List Change
 behind_noted opening order = drop (order.base - opening) order.history
 
--- Bytes of blocks from the first one on, of which those in a span were read with no lock held, and an order over which they are served
+-- A READ from block `first` on: its bytes, of which those in the span were read without a lock, and the order that serves it.
 pub record SpanRead : Type 0 where
   pub first : ℕ
   pub span : Span
   pub bytes : List ℕ
   pub order : OrderState
 
--- Those of each block that isn't in memory, is data at the base that the order has noted, and that no command behind that writes, are
--- that base's. Of what a second handle of a device vouches for this is what is trusted, and all.
+-- The read is right: blocks of the span that aren't in memory, are data at the noted base, and aren't written by a command after it,
+-- have the bytes of that base. Nothing more is trusted of what a second handle vouches for.
 abbrev pub IsRight : ℕ → Image → SpanRead → Type 0
 IsRight opening image read =
     (j k : ℕ) → 4096 * j < length read.bytes → k < 4096 → LiesIn (read.first + j) read.span → bytes_seen read.order.cache (read.first + j) ≡ None
@@ -59,14 +59,14 @@ abbrev pub AreVouched : (SpanRead → Type 0) → List SpanRead → Type 0
 AreVouched vouches [] = Unit {0}
 AreVouched vouches (read ∷ reads) = ∥ vouches read ∥₁ × AreVouched vouches reads
 
--- A fact of what memory shows: where the device is trusted, it holds as soon as reads with no lock held are right, each of which a second
--- handle has vouched for.
+-- A fact about what memory shows. It holds if the device is trusted and some reads without a lock are right; a second handle has vouched
+-- for each of them.
 pub record Trusting (opening : ℕ) (image : Image) (vouches : SpanRead → Type 0) (trusted P : Type 0) : Type 0 where
   pub reads : List SpanRead
   pub vouched : AreVouched vouches reads
   pub so : trusted → AreRight opening image reads → P
 
--- What lies under the order's lock: all this, as soon as such reads are right.
+-- The state under the order lock is that of an order of the history, if such reads are right.
 pub record KeepsImage (opening : ℕ) (image : Image) (vouches : SpanRead → Type 0) (trusted : Type 0) (order : OrderState) : Type 0 where
   pub reads : List SpanRead
   pub vouched : AreVouched vouches reads

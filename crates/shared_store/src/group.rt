@@ -6,7 +6,7 @@ use journal::Group;
 use marks::Told;
 use std::marker::Model;
 
-/// A group of commands that stand in the history under their numbers, as is told with it. It has to be spent.
+/// A group of commands that stand in the history under their numbers, with what its seal tells of the history. It can't be dropped.
 pub struct SealedGroup<B: ImageName> {
     group: Group,
     told: Told<B>,

@@ -41,7 +41,7 @@ pub enum Unstored<B: ImageName> {
     Failed,
 }
 
-/// A keeper with the seat that raises the durable number, as one lock holds them. What it has stored begins the history.
+/// A keeper with the seat that raises the durable number, both under one lock. What it has stored is a prefix of the history.
 pub struct SharedKeeper<B: ImageName, D: Disk> {
     seat: KeeperSeat<B>,
     keeper: Keeper<D>,
@@ -79,7 +79,7 @@ impl<B: ImageName, D: Disk> SharedKeeper<B, D> {
         SharedKeeper { seat, keeper }
     }
 
-    /// The keeper, to look at; what it has stored begins the history.
+    /// The keeper, to look at. What it has stored is a prefix of the history.
     pub fn keeper(&self) -> &Keeper<D>
         ensures { result.now ≡ self.now.keeper }
     {
@@ -103,7 +103,7 @@ impl<B: ImageName, D: Disk> SharedKeeper<B, D> {
         (keeper, seat)
     }
 
-    /// Stores a sealed group behind all that is stored; one that may be stored later comes back.
+    /// Stores a sealed group after all that is stored; one that may be stored later comes back.
     pub fn append<T: Trust>(
         &mut self,
         board: &Board<B, T>,
@@ -141,7 +141,7 @@ impl<B: ImageName, D: Disk> SharedKeeper<B, D> {
         }
     }
 
-    /// Makes durable in the order what is stored.
+    /// Raises the order's durable number to what is stored.
     pub fn publish<T: Trust>(&mut self, board: &Board<B, T>, order: &mut Order<B>)
         ensures order { order.new ≡ with_durable order.old self.old.keeper.count }
         ensures keeper { self.new.keeper ≡ self.old.keeper }
@@ -207,7 +207,7 @@ impl<B: ImageName, D: Disk> SharedKeeper<B, D> {
         self.keeper.write_map()
     }
 
-    /// Lets the first area go: map and data hold what it did, and the base is raised to its end. Refusals as of [`Keeper::finish`].
+    /// Ends the checkpoint of the first area, and raises the base to the area's last number. Refusals as of [`Keeper::finish`].
     pub fn finish<T: Trust>(&mut self, board: &Board<B, T>) -> Result<(), KeeperFault>
         ensures ok { OnOk result (self.new.keeper ≡ finished_by self.old.keeper self.new.keeper.disk self.new.keeper.memory) }
         ensures err { IfErr result (λ fault. self.new.keeper ≡ refused_by fault self.old.keeper self.new.keeper.disk) }
@@ -232,7 +232,7 @@ impl<B: ImageName, D: Disk> SharedKeeper<B, D> {
 }
 
 impl<B: ImageName, D: Disk> SharedKeeper<B, D> {
-    /// Meets the order: what is stored begins its history, and the base is no less than the one that it knows.
+    /// Learns the order's history: what is stored is a prefix of it, and the base is no less than the one that the order knows.
     pub fn meet<T: Trust>(&mut self, board: &Board<B, T>, order: &mut Order<B>)
         ensures order { order.new ≡ order.old }
         ensures keeper { self.new.keeper ≡ self.old.keeper }
@@ -252,8 +252,8 @@ impl<B: ImageName, D: Disk> SharedKeeper<B, D> {
         order.learn_base(board, &mut self.seat);
     }
 
-    /// Meets a pass: what it knows begins the history too, and what it knows to be durable is stored. Whatever a crash may leave of the
-    /// device now stands for the image after a beginning of that history, with all of this.
+    /// Compares with a pass: what the pass knows is a prefix of the history too, and what it knows to be durable is stored. A crash now
+    /// leaves the image after a prefix of the history that has all of that.
     pub fn meet_pass<T: Trust>(&mut self, board: &Board<B, T>, pass: &mut Pass<B>)
         ensures keeper { self.new.keeper ≡ self.old.keeper }
         ensures seen { IsPrefix self.old.seat.history self.new.seat.history }

@@ -1,7 +1,7 @@
 //! One history of commands under two locks: an order and a keeper that share it.
 //!
-//! What lies under each lock is of one history, whenever it is taken: the order's is all of it, and what the keeper has stored is
-//! a beginning. The board ties the two, which are never held together for that.
+//! Whenever a lock is taken, the state under it is of one history: the order has all of it, and the keeper has stored a prefix. The
+//! board ties the two, without both locks being taken for that.
 #![tactic(auto)]
 
 mod group;

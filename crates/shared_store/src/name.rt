@@ -3,7 +3,7 @@ use std::marker::Brand;
 
 /// Which image it is that an order and a keeper share: what it was at the opening, and what is trusted of its device.
 ///
-/// What lies under a lock can name neither, since no contract knows what a lock holds. They are picked where the board is.
+/// What lies under a lock can name neither, because no contract knows what a lock holds. They are picked where the board is.
 pub trait ImageName: BoardName {
     ghost use Rattle.disk_model.specs.Disk.{State};
     ghost use Rattle.image_model.specs.Image.{Image};

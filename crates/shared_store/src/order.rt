@@ -34,8 +34,8 @@ use request_core::{NeedsKeeper, Served, Terms, serve_held, serve_read_over};
 use std::alloc::Global;
 use std::marker::Model;
 
-/// The order of write commands, as one lock holds it. Its history is the one history, and what it shows of the image is what that
-/// makes of the image as it was at the opening.
+/// The order of write commands, under one lock. Its history is the one history, and it shows the image of the opening after that
+/// history.
 pub struct SharedOrder<B: ImageName> {
     order: Order<B>,
 }
@@ -87,8 +87,7 @@ impl<B: ImageName> SharedOrder<B> {
         self.order.stop();
     }
 
-    /// The number of the last command that was accepted, shown to a pass with the history: what memory shows is the image after
-    /// that.
+    /// Shows a pass the number of the last command that was accepted, and the history: memory shows the image after that.
     pub fn show<T: Trust>(&mut self, board: &Board<B, T>, pass: &mut Pass<B>) -> u64
         ensures mark { result ≡ self.old.mark }
         ensures place { result ≡ B.opening + length self.old.history }
@@ -103,7 +102,7 @@ impl<B: ImageName> SharedOrder<B> {
 }
 
 impl<B: ImageName> SharedOrder<B> {
-    /// Serves a request that isn't a DISC, as far as no keeper is needed.
+    /// Serves a request that isn't a DISC, if no keeper is needed.
     pub fn serve<T: Trust>(
         &mut self,
         alloc: Global,
@@ -135,9 +134,10 @@ impl<B: ImageName> SharedOrder<B> {
         serve_held(alloc, request, &mut self.order, board, pass, terms)
     }
 
-    /// Serves a READ with bytes that were read before, with no lock held. They come back where that isn't enough.
+    /// Serves a READ with bytes that were read before without a lock. If they aren't enough, they come back.
     ///
-    /// That those of blocks which aren't in memory are the base's isn't looked at: what memory shows rests on that from then on.
+    /// It doesn't check that the bytes of blocks which aren't in memory are those of the base: what memory shows depends on that from
+    /// then on.
     pub fn serve_over(
         &mut self,
         alloc: Global,
@@ -197,7 +197,7 @@ impl<B: ImageName> SharedOrder<B> {
 }
 
 impl<B: ImageName> SharedOrder<B> {
-    /// The longest beginning of the pending commands that a group may hold, which stands in the history. Refusal 0 (no memory).
+    /// Takes the longest prefix of the pending commands that fits into a group, which stands in the history. Refusal 0 (no memory).
     pub fn seal<T: Trust>(
         &mut self,
         board: &Board<B, T>,
@@ -248,8 +248,8 @@ impl<B: ImageName> SharedOrder<B> {
         keeper.publish(board, &mut self.order);
     }
 
-    /// Keeper and pass meet the order: the pass knows all of the history then. Whatever a crash may leave of the device now stands for
-    /// the image after a beginning of that, with all that the pass knows to be durable. It gives the order's last number.
+    /// Shows keeper and pass the whole history, and returns the order's last number. A crash now leaves the image after a prefix of the
+    /// history that has all that the pass knows to be durable.
     pub fn meet_all<D: Disk, T: Trust>(
         &mut self,
         board: &Board<B, T>,
@@ -273,7 +273,7 @@ impl<B: ImageName> SharedOrder<B> {
         self.order.show_mark(board, pass)
     }
 
-    /// Makes the dirty blocks clean that map and data hold: their frames can be let go.
+    /// Makes those dirty blocks clean that map and data hold: their frames may be taken again.
     pub fn clean<D: Disk, T: Trust>(&mut self, board: &Board<B, T>, keeper: &mut SharedKeeper<B, D>)
         ensures order { self.new ≡ with_clean (record self.old { base = max self.old.base keeper.old.keeper.base }) keeper.old.keeper.base }
         ensures noted { self.new.base ≡ keeper.old.keeper.base }
@@ -286,8 +286,8 @@ impl<B: ImageName> SharedOrder<B> {
 }
 
 impl<B: ImageName> SharedOrder<B> {
-    /// The end of the board, to which order and keeper give their seats back; the keeper is as it was. If there was a log, it is one of just
-    /// the order's history, and whatever a crash may leave of a trusted device has all that the log covers.
+    /// Closes the board, which takes back the seats of order and keeper; the keeper is as it was. If there was a log, it agrees with the
+    /// order's history, and a crash of a trusted device leaves all that the log covers.
     pub fn close<D: Disk, T: Trust>(
         self,
         board: Board<B, T>,

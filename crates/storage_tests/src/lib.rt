@@ -1,5 +1,5 @@
 //! Tests of devices, of a journal's area over a device that lies once a call has failed, and of a pool of frames beside plain lists.
-//! They stand beside these crates, since a crate with tests is proved twice.
+//! They stand beside these crates, because a crate with tests is proved twice.
 #![tactic(auto)]
 
 #[cfg(test)]

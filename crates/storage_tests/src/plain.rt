@@ -22,7 +22,7 @@ impl Drop for PlainPool {
 }
 
 impl PlainPool {
-    // So many frames, which are free, in ascending order, and hold zero bytes.
+    // This many frames, which are free, in ascending order, and hold zero bytes.
     pub fn new(alloc: Global, frames: u32) -> Result<PlainPool, AllocError> {
         Ok(PlainPool {
             free: (0..frames).collect(alloc)?,

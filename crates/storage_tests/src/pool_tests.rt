@@ -56,7 +56,7 @@ fn same_lists(both: &mut Both, frames: u32) -> Result<bool, AllocError> {
     Ok(same && both.agree_on(0))
 }
 
-// So many calls on a pool of so many frames: whether all answers and the lists in the end are the same.
+// This many calls on a pool of this many frames: whether all answers and the lists in the end are the same.
 fn round(alloc: Global, mut seed: u64, frames: u32, calls: u32) -> Result<bool, AllocError>
     requires { frames < 1000 }
 {

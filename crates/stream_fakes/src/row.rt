@@ -1,6 +1,6 @@
 use std::alloc::{AllocError, Global};
 
-/// The bytes that a row of hexadecimal digits spells; blanks in it are for who reads the row.
+/// The bytes that a row of hexadecimal digits spells; blanks in it are for the reader of the row.
 pub fn bytes_of(alloc: Global, row: &str) -> Result<Vec<u8>, AllocError> {
     let mut bytes = Vec::new(alloc);
     let mut first = None;

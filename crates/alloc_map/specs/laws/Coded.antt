@@ -61,7 +61,7 @@ same_codes code small (suc (suc zero)) below = omega arith
 same_codes code small (suc (suc (suc zero))) below = omega arith
 same_codes code small (suc (suc (suc (suc j)))) below = absurd (omega arith)
 
--- ranges one behind the other
+-- ranges one after the other
 pub joined : {X : Type 0} (first low high end q : ℕ) (x y : X) → first ≤ low → low ≤ high → high ≤ end →
     (if covers high (end - high) q then x else (if covers low (high - low) q then x else (if covers first (low - first) q then x else y)))
     ≡ (if covers first (end - first) q then x else y)

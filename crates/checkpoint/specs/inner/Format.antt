@@ -1,4 +1,4 @@
--- What functions of this crate hand to one another, beside `Format`.
+-- Definitions for contracts between functions of this crate, next to those of `Format`.
 use Rattle.std.specs.Prelude.{ℕ, ◌≡◌, ◌+◌, ◌<◌, ◌≤◌, List, slice_index}
 use Rattle.disk_model.specs.Disk.{State, IsSteady}
 use Rattle.header_slots.specs.Header.{SpellsAt}
@@ -16,7 +16,7 @@ pub record AreClosed (state : State) : Type 0 where
   pub one_synced : state.unsynced 4096 → ⊥
   pub steady : IsSteady state
 
--- All that is written of a fresh device but for the gates of the headers: the header in slot 0 and zeroes behind it, a
+-- All that is written of a fresh device but for the gates of the headers: the header in slot 0 and zeroes after it, a
 -- closed gate that begins the first area, and a map of zeroes.
 pub record IsFresh (content : List ℕ) (geometry : Geometry) : Type 0 where
   pub spelled : SpellsAt content 1 (first_header geometry)

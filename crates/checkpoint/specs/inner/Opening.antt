@@ -1,4 +1,4 @@
--- What functions of this crate hand to one another, beside `Opening`.
+-- Definitions for contracts between functions of this crate, next to those of `Opening`.
 use Rattle.checkpoint.specs.declared.fault.KeeperFault.{KeeperFault}
 use Rattle.checkpoint.specs.declared.fault.KeeperFault.TheVariants.{NoMemory, DeviceFault, BadMap, NoHeader, BadHeader, NumbersFull, AreaFull, OutOfOrder, DamagedGroup, NotNow, Failed, AreaSmall}
 use Rattle.std.specs.Prelude.{ℕ, ◌≡◌, ◌⊎◌, List, length, Result}
@@ -16,7 +16,7 @@ use Rattle.device_image.specs.Keeps.{HoldsAreas}
 use Rattle.checkpoint.specs.Opening.{IsUnfixed, disk_after}
 
 -- A device that is good was read: this is its header and the slot of it, its map, what is to be copied of each area in use
--- in front of the last, and the last one.
+-- before the last, and the last one.
 pub record IsOpened (state : State) (header : Header) (slot : Side) (states : List Kind) (plans : List PlanState) (area : AreaState) : Type 0 where
   pub lists : List (List StoredGroup)
   pub synced : IsAllSynced state

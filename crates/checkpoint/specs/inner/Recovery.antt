@@ -1,4 +1,4 @@
--- What functions of this crate hand to one another, beside `Recovery`.
+-- Definitions for contracts between functions of this crate, next to those of `Recovery`.
 use Rattle.std.specs.Prelude.{ℕ, zero, suc}
 use Rattle.checkpoint.specs.declared.fault.KeeperFault.{KeeperFault}
 use Rattle.checkpoint.specs.declared.fault.KeeperFault.TheVariants.{NoMemory, DeviceFault, BadMap, NoHeader, BadHeader, NumbersFull, AreaFull, OutOfOrder, DamagedGroup, NotNow, Failed, AreaSmall}

@@ -12,7 +12,7 @@ abbrev pub map_after : List PlanState → List Kind → List Kind
 map_after [] map = map
 map_after (plan ∷ plans) map = map_in plan.mapped map
 
--- the checkpoints behind the first
+-- the checkpoints after the first
 abbrev pub plans_behind : List PlanState → List PlanState
 plans_behind [] = []
 plans_behind (plan ∷ plans) = plans

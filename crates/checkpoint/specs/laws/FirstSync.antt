@@ -29,7 +29,7 @@ module _ {D : Type 0} (before : State) (state : D → State) (found : List ℕ) 
   headers_let_go (inl is) headers = headers
   headers_let_go (inr failed) headers = absurd failed
 
--- where memory is refused behind the opening
+-- where memory is refused after the opening
 pub starved : {D : Type 0} (before : State) (state : D → State) (found : List ℕ) (keeper : KeeperState D) → IsOpening before state (Ok keeper) found → IsOpening before state (Err (NoMemory, keeper.disk)) found
 starved before state found keeper opening = record {
   fixed = opening.fixed;

@@ -31,7 +31,7 @@ tied_rule (tie.Requires other) rule = record rule { is_free = false }
 abbrev pub rule_of_row : ArgumentRow → Rule
 rule_of_row row = tied_rule row.tie (rule_of_form row.name.now row.form)
 
--- the command with the arguments of these rows, one behind another
+-- the command with the arguments of these rows, one after another
 abbrev pub with_rows : App → List ArgumentRow → App
 with_rows app [] = app
 with_rows app (row ∷ rows) = with_rows (with_rule app (rule_of_row row)) rows

@@ -5,7 +5,7 @@ use Rattle.header_slots.specs.declared.header.Header.{Header}
 use Rattle.image_model.specs.Side.{other_of}
 use Rattle.regions.specs.Layout.{areas_in, next_of}
 
--- the next area is in use too, behind those that were
+-- the next area is in use too, after those that were
 abbrev pub with_next : Header → HeaderChange
 with_next header = record { in_front = header.in_front + 1; first_area = header.first_area; map_slot = header.map_slot; base = header.base }
 

@@ -9,7 +9,7 @@ use Rattle.image_model.specs.declared.command.Kind.{Kind}
 use Rattle.image_model.specs.declared.side.Side.{Side}
 use Rattle.regions.specs.Map.{HoldsMap}
 
--- after so many bytes were read at one place and written at another, where no place was loose
+-- after this many bytes were read at one place and written at another, where no place was loose
 pub record IsCopiedOver (before : State) (from to count : ℕ) (after : State) : Type 0 where
   pub size : length after.seen ≡ length before.seen
   pub written : (k : ℕ) → k < count → slice_index after.seen (to + k) ≡ slice_index before.seen (from + k)

@@ -1,4 +1,4 @@
--- What functions of this crate hand to one another, beside `Plan`.
+-- Definitions for contracts between functions of this crate, next to those of `Plan`.
 use Rattle.image_model.specs.declared.command.Kind.{Kind}
 use Rattle.image_model.specs.declared.command.Kind.TheVariants.{Data}
 use Rattle.latest_writes.specs.declared.touch.LastTouch.{LastTouch}

@@ -58,7 +58,7 @@ module _ {D : Type 0} (keeper : KeeperState D) (before : State) (base : Image) (
       (base_stays base before.seen after.seen keeper.geometry keeper.memory.map (joined fronts) (joined fronts) holds.is_base (λ block none. none)
       (λ block offset small none. in_place after.seen block offset (same block offset small (unwritten block none)))))
 
-  -- commands were added behind the others
+  -- commands were added after the others
   pub holds_more : (now : KeeperState D) (after : State) (group : StoredGroup) (count : ℕ) → KeepsLists now after (apply_all group.changes image) count holds.keeps.areas.front (holds.keeps.areas.groups ++ group ∷ [])
       → count ≡ number + length group.changes → now.base ≡ keeper.base → now.geometry ≡ keeper.geometry → now.memory.map ≡ keeper.memory.map
       → ((block offset : ℕ) → offset < 4096 → is_put (last_touch block (touched_first holds.keeps.stands.header holds.keeps.areas.front)) ≡ false
@@ -87,7 +87,7 @@ first_unwritten : (a b : Bool) → (a || b) ≡ false → a ≡ false
 first_unwritten true b none = none
 first_unwritten false b none = refl
 
--- the last area in use came to stand in front of another
+-- the last area in use came to stand before another
 pub holds_begun : {D : Type 0} (keeper : KeeperState D) (before : State) (base : Image) (fronts : List (List Change)) (last : List Change) (holds : Holds keeper before base fronts last) (now : KeeperState D) (after : State)
     → KeepsLists now after (apply_all last (apply_all (joined fronts) base)) (keeper.base + length (joined fronts) + length last) (holds.keeps.areas.front ++ holds.keeps.areas.groups ∷ []) []
     → now.base ≡ keeper.base → now.geometry ≡ keeper.geometry → now.memory.map ≡ keeper.memory.map
@@ -161,7 +161,7 @@ holds_ended keeper before base first others last holds plan rest is after mapped
     (omega (arith, base_is, ap length are.0, length-append first (joined others))) are.1 holds.in_last
     (moved_base (apply_all first base) state.seen holds.keeps.stands.header.geometry now.geometry after now.memory.map (joined others) (geometry_is ∙ holds.keeps.sizes) map_is ended)
 
--- no checkpoint is to be carried out where no area holds anything in front of the last
+-- no checkpoint is to be carried out where no area holds anything before the last
 no_plans : (areas : List ℕ) (geometry : Geometry) (next : ℕ) (front : List (List StoredGroup)) (plans : List PlanState) (state : State) → AreHeld areas geometry next front (earlier_of plans) state → map changes_of front ≡ [] → plans ≡ []
 no_plans [] geometry next [] [] state held none = refl
 no_plans [] geometry next [] (plan ∷ plans) state held none = absurd held

@@ -33,7 +33,7 @@ use Rattle.device_image.specs.laws.Lists.{KeepsLists}
 use Rattle.device_image.specs.laws.Puts.{count_more, count_one, count_same, count_zero}
 use Rattle.device_image.specs.laws.Steps.{held_stay}
 
--- as many areas stand in front of the last as checkpoints are to be carried out
+-- as many areas stand before the last as checkpoints are to be carried out
 pub fronts_many : (count n first : ℕ) (geometry : Geometry) (next : ℕ) (front : List (List StoredGroup)) (plans : List PlanState) (state : State)
     → AreHeld (ring count n first) geometry next front (earlier_of plans) state → n ≡ length plans
 fronts_many count zero first geometry next [] [] state held = refl
@@ -73,7 +73,7 @@ plan_left area plan is =
     ∙ ap (λ (blocks : ℕ). count_puts blocks plan.first.touched) is.remembered.blocks
     ∙ count_same area.blocks area.blocks plan.first.touched area.touched (omega arith) is.remembered.touched
 
--- one more area behind those that are held
+-- one more area after those that are held
 pub held_more : (areas : List ℕ) (last : ℕ) (geometry : Geometry) (next : ℕ) (front : List (List StoredGroup)) (groups : List StoredGroup) (earlier : List AreaState) (area : AreaState) (state : State)
     → AreHeld areas geometry next front earlier state → IsPlaced area geometry last → IsListed area (behind_lists next front) groups state
     → AreHeld (areas ++ last ∷ []) geometry next (front ++ groups ∷ []) (earlier ++ area ∷ []) state
@@ -308,7 +308,7 @@ module _ {D : Type 0} (keeper : KeeperState D) (before : State) (image : Image) 
             groups_are = refl;
           }))
 
--- the first of several areas in use, and those behind it in front of the last
+-- the first of several areas in use, and those after it before the last
 pub record AreSeveral (header : Header) (front : List (List StoredGroup)) (plan : PlanState) (rest : List PlanState) (state : State) : Type 0 where
   pub first : List StoredGroup
   pub others : List (List StoredGroup)

@@ -172,7 +172,7 @@ abbrev pub AreOthers : Geometry → List ℕ → ℕ → Type 0
 AreOthers geometry [] last = Unit {0}
 AreOthers geometry (area ∷ areas) last = (area < areas_in geometry) × (area ≢ last) × AreOthers geometry areas last
 
--- an area behind others in the ring is none of them
+-- an area after others in the ring is none of them
 pub others_behind : (geometry : Geometry) (n k area : ℕ) → area < areas_in geometry → n ≤ k → k < areas_in geometry → AreOthers geometry (ring (areas_in geometry) n area) (behind (areas_in geometry) k area)
 others_behind geometry zero k area inside fits few = tt
 others_behind geometry (suc n) zero area inside fits few = absurd (omega (arith, fits))
@@ -197,7 +197,7 @@ lists_kept (area ∷ areas) last old content geometry next (groups ∷ lists) ot
   lists_kept areas last old content geometry (next_behind next groups) lists others.2 same holds.1,
 )
 
--- lists with one more behind them
+-- lists with one more after them
 pub with_last : (areas : List ℕ) (last : ℕ) (content : List ℕ) (geometry : Geometry) (next : ℕ) (front : List (List StoredGroup)) (groups : List StoredGroup)
     → HoldLists areas content geometry next front → IsList (area_of geometry last) (behind_lists next front) groups content → HoldLists (areas ++ last ∷ []) content geometry next (front ++ groups ∷ [])
 with_last [] last content geometry next [] groups holds list = (list, tt)

@@ -28,7 +28,7 @@ maps_apart geometry Zero place here there = omega (arith, here.0, here.1, there.
 maps_apart geometry One place here there = omega (arith, here.0, here.1, there.0, there.1)
 
 module _ (header : Header) (front : List (List StoredGroup)) (place : ℕ) where
-  -- the areas so many places behind the first
+  -- the areas this many places after the first
   spare_low : (places : ℕ) → 8192 ≤ area_at header.geometry (behind (areas_in header.geometry) places header.first_area)
   spare_low places = area_low header.geometry (behind (areas_in header.geometry) places header.first_area)
 
@@ -85,7 +85,7 @@ pub ring_inside : (geometry : Geometry) (n area : ℕ) → area < areas_in geome
 ring_inside geometry zero area inside = tt
 ring_inside geometry (suc n) area inside = (inside, ring_inside geometry n (next_of (areas_in geometry) area) (next_below (areas_in geometry) area inside))
 
--- the areas in use, and those in front of the last, are none of the spare ones
+-- the areas in use, and those before the last, are none of the spare ones
 pub in_use_used : (header : Header) → AreUsed header (in_use header)
 in_use_used header places behind_it few = others_behind header.geometry (suc header.in_front) places header.first_area header.first_inside (omega (arith, behind_it)) few
 

@@ -31,7 +31,7 @@ use Rattle.device_image.specs.laws.Free.{AreSame, lists_stay, lists_still, map_s
 use Rattle.device_image.specs.laws.Headers.{begun, ended}
 use Rattle.device_image.specs.laws.Touched.{IsSoundTouch, groups_sound}
 
--- behind groups that follow the number `last` the next number is the one that follows the last of them
+-- after groups that follow the number `last` the next number is the one that follows the last of them
 pub record Follows (last next : ℕ) (groups : List StoredGroup) : Type 0 where
   pub following : next_behind next groups ≡ next_number (last + length (changes_of groups))
   pub fits : last + length (changes_of groups) < 18446744073709551616
@@ -63,11 +63,11 @@ slot_kept old content states geometry slot same map = record {
   map = map.map;
 }
 
--- the changes of lists do not change where an empty one comes behind them
+-- the changes of lists do not change where an empty one comes after them
 pub changes-empty : (lists : List (List StoredGroup)) → all_changes (lists ++ [] ∷ []) ≡ all_changes lists
 changes-empty lists = all_changes-append lists ([] ∷ []) ∙ append-nil (all_changes lists)
 
--- a checkpoint begins: an empty area comes behind those in use
+-- a checkpoint begins: an empty area comes after those in use
 module _ (old content : List ℕ) (image : Image) (number : ℕ) (stands : StandsFor old image number) (front : List (List StoredGroup)) (groups : List StoredGroup)
     (are : stands.lists ≡ front ++ groups ∷ [])
     (same : (place : ℕ) → 8192 ≤ place → (IsFree stands.header front place → ⊥) → slice_index content place ≡ slice_index old place)
@@ -150,7 +150,7 @@ module _ (old : List ℕ) (geometry : Geometry) (place next : ℕ) (groups : Lis
       let kinds = λ (block : ℕ). groups_kind geometry.blocks old place next groups stand (stored_image old geometry before) block ∙ state_after block in
       λ i. record { blocks = sizes i; byte = λ p. all_bytes p i; kind = λ block. kinds block i }
 
--- areas stay where all behind the header slots does
+-- areas stay where all after the header slots does
 pub areas_above : (areas : List ℕ) (geometry : Geometry) (old content : List ℕ) → ((place : ℕ) → 8192 ≤ place → slice_index content place ≡ slice_index old place) → AreSame areas geometry old content
 areas_above [] geometry old content same = tt
 areas_above (area ∷ areas) geometry old content same = (λ place here. same place (omega (arith, here.0, area_low geometry area)), areas_above areas geometry old content same)

@@ -5,14 +5,14 @@ use Rattle.image_model.specs.Side.{other_of}
 use Rattle.regions.specs.Layout.{areas_in, next_of}
 use Rattle.regions.specs.laws.Ring.{next_below}
 
--- with the next area in use, behind those that were
+-- with the next area in use, after those that were
 abbrev pub begun : (header : Header) → suc header.in_front < areas_in header.geometry → Header
 begun header room = record header { generation = header.generation + 1; in_front = suc header.in_front; few_areas = room }
 
 pub fewer : (header : Header) (rest : ℕ) → header.in_front ≡ suc rest → rest < areas_in header.geometry
 fewer header rest is = let few = header.few_areas in omega (arith, few, is)
 
--- without the first of them, where so many others stand in front of the last
+-- without the first of them, where this many others stand before the last
 abbrev pub ended : (header : Header) (rest : ℕ) → header.in_front ≡ suc rest → ℕ → Header
 ended header rest is base = record header {
   generation = header.generation + 1;

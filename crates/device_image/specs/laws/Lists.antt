@@ -6,7 +6,7 @@ use Rattle.journal_format.specs.Spelling.{StoredGroup}
 use Rattle.device_image.specs.Keeper.{KeeperState}
 use Rattle.device_image.specs.Keeps.{Keeps}
 
--- these are the lists in the areas in front of the last, and in the last
+-- these are the lists in the areas before the last, and in the last
 pub record KeepsLists {D : Type 0} (keeper : KeeperState D) (state : State) (image : Image) (number : ℕ) (front : List (List StoredGroup)) (groups : List StoredGroup) : Type 0 where
   pub keeps : Keeps keeper state image number
   pub front_is : keeps.areas.front ≡ front

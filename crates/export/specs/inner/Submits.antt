@@ -1,4 +1,4 @@
--- What functions of this crate hand to one another, beside `Submits`.
+-- Definitions for contracts between functions of this crate, next to those of `Submits`.
 use Rattle.std.specs.Prelude.{ℕ, ◌≡◌, ◌≢◌, ◌+◌, ◌≤◌, ◌⊎◌, Bool, true, false, List, length, Ok}
 use mathlib.Core.List.{IsPrefix}
 use Rattle.image_model.specs.Change.{Change}
@@ -52,8 +52,8 @@ serves_image (served.Ready reply) = is_of_image reply.answer
 serves_image (served.Wait number) = false
 serves_image (served.NoRoom back) = false
 
--- Where these were served all of a history, whose last number is the mark, is shown to their pass: what it knew begins that.
--- Otherwise the pass is as it was.
+-- If an image was served, the pass is shown the whole history, whose last number is the mark, and what it knew before is a prefix
+-- of that. Otherwise the pass is as it was.
 pub record IsShownFor (history : List Change) (mark : ℕ) (served : Served) (old new : PassState) : Type 0 where
   pub knew : IsPrefix old.history new.history
   pub shown : serves_image served ≡ true → new ≡ record old { history = history; accepted = mark }
@@ -77,7 +77,7 @@ pub record IsUnserved (geometry : Geometry) (flags : SessionFlags) (request : Me
   pub answer : served ≡ ready_for request.head.cookie (Refused errno)
   pub judged : IsJudged (verdict request.head geometry flags) request (Refused errno)
 
--- Who has waited for a number is answered Ok once it is durable, or EIO.
+-- The end of a wait for a number: Ok once it is durable, or EIO.
 pub record IsWaitedFor (number : ℕ) (old new : PassState) (answer : Answer) : Type 0 where
   pub answered : (answer ≡ Done) ⊎ (answer ≡ Refused Io)
   pub done : answer ≡ Done → number ≤ new.durable

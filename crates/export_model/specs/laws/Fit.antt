@@ -24,7 +24,7 @@ use Rattle.export_model.specs.laws.Ordered.{no_answer, one_sender}
 use Rattle.export_model.specs.laws.Sound.{IsOpen, IsSound, one_event}
 use Rattle.export_model.specs.laws.Talk.{own_place, pair_within}
 
--- Where the device is trusted, which may be any statement, an answer is what the image shows; the rest holds of any device.
+-- If the device is trusted, which may be any statement, an answer is what the image shows; the rest holds of any device.
 module _ (trusted : Type 0) where
   -- what answers that show an image are judged by
   pub record Facts : Type 0 where

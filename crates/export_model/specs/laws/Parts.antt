@@ -1,4 +1,4 @@
--- commands of an order between two numbers, and the blocks that are dirty behind one
+-- commands of an order between two numbers, and the blocks that are dirty after one
 use Rattle.std.proofs.Common.{◌≡◌, ℕ, ◌+◌, ◌-◌, ◌≤◌, List, ◌++◌, length, length-drop, take, drop, ap, ◌∙◌, arith}
 use Rattle.std.proofs.lemmas.List.{drop-append-le, drop-drop, take-append-le}
 use Rattle.std.proofs.Math.Seq.{take-add}

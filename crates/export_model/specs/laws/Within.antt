@@ -47,12 +47,12 @@ pub rising_through : (base : ℕ) (turned : List ℕ) (stored : ℕ) → IsRisin
 rising_through base [] stored is = is
 rising_through base (first ∷ rest) stored is = let first_in = is.0 in let rest_in = rising_through first rest stored is.1 in omega (arith, first_in, rest_in)
 
--- the next area comes into use behind one that holds something
+-- the next area comes into use after one that holds something
 pub rising_end : (base : ℕ) (turned : List ℕ) (stored : ℕ) → last_turned base turned < stored → IsRising base turned stored → IsRising base (turned ++ stored ∷ []) stored
 rising_end base [] stored some is = (some, omega arith)
 rising_end base (first ∷ rest) stored some is = (is.0, rising_end first rest stored some is.1)
 
--- the last area in use stands behind what is stored
+-- the last area in use stands after what is stored
 pub turned_through : (base : ℕ) (turned : List ℕ) (stored : ℕ) → IsRising base turned stored → last_turned base turned ≤ stored
 turned_through base [] stored is = is
 turned_through base (first ∷ rest) stored is = turned_through first rest stored is.1
@@ -69,7 +69,7 @@ behind_same base (first ∷ rest) stored order more is within =
     let first_in = is.0 in let rest_in = rising_through first rest stored is.1 in
     copied_same base first order more (omega (arith, first_in)) (omega (arith, rest_in, within))
 
--- where nothing in front of the last area is turned nothing is left to copy, so behind the first all of it is
+-- where nothing before the last area is turned nothing is left to copy, so after the first all of it is
 rotated_left : (stage : Stage) (turned : List ℕ) → stage.left ≤ left_behind stage.base turned stage.order
     → (if is_turned turned then stage.left else to_copy stage.base stage.stored stage.order) ≤ left_behind stage.base (turned ++ stage.stored ∷ []) stage.order
 rotated_left stage [] is = omega arith

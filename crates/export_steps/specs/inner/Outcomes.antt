@@ -1,4 +1,4 @@
--- What functions of this crate hand to one another, beside `Outcomes`.
+-- Definitions for contracts between functions of this crate, next to those of `Outcomes`.
 use Rattle.std.specs.Prelude.{ℕ, ◌≡◌, ◌⊎◌, true, false, Option, None, Result, Ok}
 use Rattle.device_image.specs.Keeper.{KeeperState}
 use Rattle.disk_model.specs.Disk.{State}

@@ -1,4 +1,4 @@
--- What functions of this crate hand to one another.
+-- Definitions for contracts between functions of this crate.
 use Rattle.std.specs.Prelude.{ℕ, ◌≡◌, ◌⊎◌, MatchBool, MatchOption, slice_index_or, slice_set, Bool, nat_le, nat_lt, Result, Ok, Err, if◌then◌else◌, Option, Some, None, List, [], ◌∷◌, ◌++◌}
 use Rattle.image_model.specs.Change.{Change, AreChanges}
 use Rattle.image_model.specs.declared.geometry.Geometry.{Geometry}

@@ -50,7 +50,7 @@ module _ (stage : Stage) (is : IsOrdered stage) (cleaned : stage.cleaned ≤ sta
       ap (λ (l : List Change). apply_all l stage.setting.image) (take_part stage.order stage.cleaned stage.base cleaned)
       ∙ apply_append (take stage.cleaned stage.order) (part stage.order stage.cleaned stage.base) stage.setting.image
 
-  -- no command behind those whose frames were let go touches such a block
+  -- no command after those whose frames were let go touches such a block
   untouched : (block : ℕ) → (image_after stage.order (length stage.order) stage.setting.image).kind block ≡ Data → get (dirty_behind stage.cleaned stage) block ≡ None
       → list_any (touches block) behind ≡ false
   untouched block is_data clean = data_untouched stage.setting.geometry.blocks (stage.setting.opening + stage.cleaned) block behind front changes_behind

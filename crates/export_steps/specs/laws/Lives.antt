@@ -22,7 +22,7 @@ use Rattle.export_model.specs.Law.{IsRising, IsWithin}
 use Rattle.export_model.specs.laws.Within.{rising_through, turned_through}
 use Rattle.export_model.specs.laws.Parts.{copied_same, part_more, part_same}
 
--- the commands in the areas in front of the last
+-- the commands in the areas before the last
 abbrev pub first_commands : Stage → List Change
 first_commands stage = part stage.order stage.base (turned_at stage)
 
@@ -52,7 +52,7 @@ pub take_part : (order : List Change) (base until : ℕ) → base ≤ until → 
 take_part order base until above =
     ap (λ (n : ℕ). take n order) (let same : until ≡ base + (until - base) = omega (arith, above) in same) ∙ take-add base (until - base) order
 
--- what is in map and data stands in front of the last area
+-- what is in map and data stands before the last area
 pub through_turned : (base : ℕ) (turned : List ℕ) (stored : ℕ) → IsRising base turned stored → base ≤ last_turned base turned
 through_turned base [] stored is = omega arith
 through_turned base (first ∷ rest) stored is = let here = is.0 in let behind = through_turned first rest stored is.1 in omega (arith, here, behind)
@@ -61,7 +61,7 @@ through_turned base (first ∷ rest) stored is = let here = is.0 in let behind =
 pub part_none : (order : List Change) (from until : ℕ) → from ≡ until → part order from until ≡ []
 part_none order from until same = ap (λ (n : ℕ). take n (drop from order)) (let none : until - from ≡ 0 = omega (arith, same) in none)
 
--- commands that come to the end of the order are in no area in front of the last
+-- commands that come to the end of the order are in no area before the last
 fronts_same : (base : ℕ) (turned : List ℕ) (stored : ℕ) (order more : List Change) → stored ≤ length order → IsRising base turned stored
     → fronts_of (order ++ more) base turned ≡ fronts_of order base turned
 fronts_same base [] stored order more within is = refl

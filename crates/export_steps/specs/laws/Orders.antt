@@ -247,7 +247,7 @@ order_publishes stage order group count of durable stored count_is =
         and_from (nat_le order.durable count) (nat_le count order.mark) (le-leb order.durable count (omega (arith, from, count_is, durable))) (le-leb count order.mark (omega (arith, mark, count_is, stored)))
 
 module _ (last : ℕ) (changes : List Change) (few many : ℕ) (further : few ≤ many) (within : many ≤ length changes) where
-  -- the commands between the first so many and the first more of them
+  -- the commands between the first N and the first more of them
   abbrev between : List Change
   between = take (many - few) (drop few changes)
 
@@ -259,7 +259,7 @@ module _ (last : ℕ) (changes : List Change) (few many : ℕ) (further : few �
   number_at : last + few + length between ≡ last + many
   number_at = omega (arith, length-take (many - few) (drop few changes), length-drop few changes, further, within)
 
-  -- cleaned through the last of these, the dirty blocks are those of the commands behind it
+  -- cleaned through the last of these, the dirty blocks are those of the commands after it
   cleaned_behind : clean_through (dirty_blocks (last + few) (drop few changes)) (last + many) ≡ dirty_blocks (last + many) (drop many changes)
   cleaned_behind =
       ap (clean_through (dirty_blocks (last + few) (drop few changes))) (sym number_at)

@@ -1,4 +1,4 @@
--- What functions of this crate hand to one another, beside `Slots`.
+-- Definitions for contracts between functions of this crate, next to those of `Slots`.
 use Rattle.std.specs.Prelude.{ℕ, List, Result, Ok, Err}
 use Rattle.header_slots.specs.declared.fault.HeaderFault.{HeaderFault}
 use Rattle.header_slots.specs.declared.fault.HeaderFault.TheVariants.{DeviceFault, NoHeader, BadHeader}

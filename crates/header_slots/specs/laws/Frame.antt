@@ -39,7 +39,7 @@ number_behind count place bytes =
     let k0 : 0 + k ≡ k = omega arith in
     ap (slice_index (drop place bytes)) k0 ∙ get_or-drop place bytes k 0)
 
--- the bytes behind a gate, cut out
+-- the bytes after a gate, cut out
 pub cut_out : (front : List ℕ) (from place k : ℕ) → from ≡ place → k < 39 → slice_index (take (from + 1 + 39 - (from + 1)) (drop (from + 1) front)) (0 + k) ≡ slice_index front (place + 1 + k)
 cut_out front from place k same below =
     let count : from + 1 + 39 - (from + 1) ≡ 39 = omega arith in

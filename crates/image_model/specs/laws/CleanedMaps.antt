@@ -90,7 +90,7 @@ none_above dirty last (change ∷ changes) none = λ q.
         ap (is_above (last + 1)) (get-dirty_after dirty (last + 1) change q)
         ∙ none_of (last + 1) (last + 1) q change (touches q change) (get dirty q) (omega arith) (none_later last (last + 1) (get dirty q) (omega arith) (none q))
 
--- cleaned through the last of some commands, the dirty blocks are those of the commands behind them
+-- cleaned through the last of some commands, the dirty blocks are those of the commands after them
 pub cleaned-blocks : (last : ℕ) (changes more : List Change)
     → clean_through (dirty_blocks last (changes ++ more)) (last + length changes) ≡ dirty_blocks (last + length changes) more
 cleaned-blocks last changes more =

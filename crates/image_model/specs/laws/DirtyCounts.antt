@@ -130,7 +130,7 @@ value_of : (given : Option ℕ) → is_some given ≡ true → (value : ℕ) × 
 value_of None is = absurd (both_ways false refl is)
 value_of (Some value) is = (value, refl)
 
--- behind more commands fewer blocks are dirty exactly where one of them has the number of one of these commands
+-- after more commands fewer blocks are dirty exactly where one of them has the number of one of these commands
 module _ (last : ℕ) (changes : List Change) (few many : ℕ) (further : few ≤ many) (within : many ≤ length changes) where
   pub dirty_fewer : (q number : ℕ) → get (dirty_blocks (last + few) (drop few changes)) q ≡ Some number → number ≤ last + many
       → len (dirty_blocks (last + many) (drop many changes)) < len (dirty_blocks (last + few) (drop few changes))

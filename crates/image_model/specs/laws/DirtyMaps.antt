@@ -196,7 +196,7 @@ get-dirty_blocks last changes q =
     ∙ ap (cond (list_any (touches q) changes) (last_write q last changes)) (get-empty nat_cmp q)
     ∙ untouched q last changes
 
--- more commands behind some
+-- more commands after some
 pub dirty_from-append : (dirty : Dirty) (last : ℕ) (changes more : List Change) →
     dirty_from dirty last (changes ++ more) ≡ dirty_from (dirty_from dirty last changes) (last + length changes) more
 dirty_from-append dirty last [] more = ap (λ (n : ℕ). dirty_from dirty n more) (omega arith)

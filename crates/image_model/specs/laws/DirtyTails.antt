@@ -54,7 +54,7 @@ module _ (last : ℕ) (changes more : List Change) (q number : ℕ) where
           let before = dirty_within last changes q number (sym (all_dirty ∙ ap (λ test. cond test (last_write q (last + length changes) more) (get (dirty_blocks last changes) q)) none) ∙ is) in
           let below = before.1 in absurd (omega (arith, below, above))
 
--- the same of the commands behind the first `few`, and of those behind the first `many`
+-- the same of the commands after the first `few`, and of those after the first `many`
 module _ (last : ℕ) (changes : List Change) (few many : ℕ) (further : few ≤ many) (within : many ≤ length changes) where
   front : List Change
   front = take (many - few) (drop few changes)
@@ -86,7 +86,7 @@ module _ (last : ℕ) (changes : List Change) (few many : ℕ) (further : few �
       (dirty_last (last + few) front (drop many changes) q number (omega (arith, number_at, above))
       (subst (λ (rest : List Change). get (dirty_blocks (last + few) rest) q ≡ Some number) (sym parts) is))
 
--- one command more, behind the first `count`
+-- one command more, after the first `count`
 pub dirty_behind_push : (last : ℕ) (changes : List Change) (count : ℕ) (change : Change) → count ≤ length changes
     → dirty_blocks (last + count) (drop count (changes ++ change ∷ [])) ≡ dirty_after (dirty_blocks (last + count) (drop count changes)) (last + length changes + 1) change
 dirty_behind_push last changes count change within =

@@ -5,7 +5,7 @@ use Rattle.image_model.specs.declared.command.Kind.TheVariants.{Data, Hole}
 use Rattle.image_model.specs.Image.{covers}
 use Rattle.image_model.specs.Edit.{ByteEdit, BytesPut, BytesZeroed, BytesTrimmed, blocks_met, count_of, end_spanned, first_spanned, kind_edited, meets, offset_of, spans}
 
--- bytes meet no block behind them
+-- bytes meet no block after them
 pub behind_edit : (offset count block : ℕ) → offset + count ≤ 4096 * block → meets offset count block ≡ false
 behind_edit offset count block behind = grind (arith, nat_tests)
 

@@ -12,7 +12,7 @@ use Rattle.image_model.specs.Image.{Image, covers, is_data, last_of}
 use Rattle.image_model.specs.Edit.{BytesPut, BytesZeroed, BytesTrimmed, apply_edit, becomes, blocks_met, bytes_of, cleared_within, end_spanned, first_spanned, is_partial_data, spans}
 use Rattle.image_model.specs.laws.Becoming.{get-bytes_of, length-bytes_of}
 
--- so many bytes of an image from a place on
+-- this many bytes of an image from a place on
 abbrev pub bytes_from : Image → ℕ → ℕ → List ℕ
 bytes_from image place count = map image.byte (range_with_len place count)
 
@@ -73,7 +73,7 @@ module _ (offset : ℕ) (bytes : List ℕ) (image : Image) where
     each : slice_index all_bytes k ≡ slice_index (front_bytes ++ (bytes ++ back_bytes)) k
     each = ⊎_elim in_front (λ low. ⊎_elim (in_bytes low) behind (cases_lt k (offset % 4096 + length bytes))) (cases_lt k (offset % 4096))
 
-  -- a put in part: the image's bytes in front of it, its own, and the image's up to the end of its last block
+  -- a put in part: the image's bytes before it, its own, and the image's up to the end of its last block
   pub put_parts : all_bytes ≡ front_bytes ++ (bytes ++ back_bytes)
   put_parts = same_lists all_bytes (front_bytes ++ (bytes ++ back_bytes)) long
       (λ k d below.

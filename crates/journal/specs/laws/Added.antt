@@ -17,7 +17,7 @@ use Rattle.journal_format.specs.laws.Groups.{touched_groups-push}
 use Rattle.journal_format.specs.laws.Spelled.{length-body, length-group, sizes-push, next-push}
 use Rattle.journal_format.specs.laws.Contents.{IsSameFrom, list_ends, list_stays, list_grows}
 
--- what is written behind the gate
+-- what is written after the gate
 abbrev pub written : StoredGroup → List ℕ
 written group = group_bytes group ++ 0 ∷ []
 
@@ -78,7 +78,7 @@ module _ (area : AreaState) (first : ℕ) (groups : List StoredGroup) (before : 
       same = λ place low high. left.same place (held.synced place (low, omega (arith, high, held.list.inside))) (λ within. absurd (omega (arith, within.0, high, held.gate)));
     }
 
-    -- the group stands whole behind an open gate
+    -- the group stands whole after an open gate
     added_list : (content : List ℕ) → IsSameFrom before.seen content area.from (area.from + sizes_of groups) → IsOpen content (area.from + area.gate) → StandsAt content (area.from + area.gate + 1) (written group)
         → IsList area first (groups ++ group ∷ []) content
     added_list content same is_open whole =

@@ -3,7 +3,7 @@ use Rattle.std.specs.Prelude.{ℕ, ◌≡◌, ◌+◌, ◌⊎◌, List, length, 
 use Rattle.disk_model.specs.Disk.{State, InRange, IsAllSynced, MayLeaveTorn}
 use Rattle.journal_format.specs.GroupList.{IsOpen, StandsAt}
 
--- what a crash may leave while these bytes are written behind a gate, and the gate is then opened: its byte is as it
+-- what a crash may leave while these bytes are written after a gate, and the gate is then opened: its byte is as it
 -- was, or the bytes are whole
 pub record LeavesGateOrBytes (state : State) (gate : ℕ) (bytes : List ℕ) (content : List ℕ) : Type 0 where
   pub others : MayLeaveTorn state gate (1 + length bytes) content

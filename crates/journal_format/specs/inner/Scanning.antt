@@ -1,4 +1,4 @@
--- What functions of this crate hand to one another, beside `Scanning`.
+-- Definitions for contracts between functions of this crate, next to those of `Scanning`.
 use Rattle.std.specs.Prelude.{ℕ, ◌≡◌, ◌+◌, ◌*◌, ◌≤◌, ◌⊎◌, Option, Some, None, List, ◌++◌, ◌||◌, length, if◌then◌else◌, ◌==◌, ◌<◌, slice_index}
 use Rattle.std.specs.List.{flat_map}
 use Rattle.image_model.specs.declared.command.Edges.{Edges}
@@ -23,11 +23,11 @@ pub record IsReadAs (content : List ℕ) (state : State) (area bytes : ℕ) (win
 abbrev pub IsEdgedKind : ℕ → Type 0
 IsEdgedKind kind = (kind ≡ 4) ⊎ (kind ≡ 5)
 
--- the edges that the byte behind such a head says
+-- the edges that the byte after such a head says
 abbrev pub edges_said : ℕ → Option Edges
 edges_said byte = if byte == 1 then Some Head else (if byte == 2 then Some Tail else (if byte == 3 then Some Both else None))
 
--- the heads of a put, of a clear, and of one with these edges, with so many bytes behind them
+-- the heads of a put, of a clear, and of one with these edges, with this many bytes after them
 abbrev pub IsPutHead : ℕ → ℕ → ℕ → Type 0
 IsPutHead kind blocks bytes = (kind ≡ 1) × (1 ≤ blocks) × (blocks ≤ 257) × (bytes ≡ 4096 * blocks)
 
@@ -38,7 +38,7 @@ abbrev pub IsEdgedHead : ℕ → ℕ → Option Edges → ℕ → Type 0
 IsEdgedHead kind blocks edges bytes =
     IsEdgedKind kind × ((own : Edges) × (edges ≡ Some own) × (least_blocks own ≤ blocks) × (bytes ≡ 1 + 4096 * edge_count own))
 
--- the head of a change of an image of so many blocks, with so many bytes behind it, which say these edges where there are
+-- the head of a change of an image of this many blocks, with this many bytes after it, which say these edges where there are
 -- some
 pub record IsHead (image kind first blocks : ℕ) (edges : Option Edges) (bytes : ℕ) : Type 0 where
   pub inside : first + blocks ≤ image
@@ -67,14 +67,14 @@ pub record StandBetween (image : ℕ) (content : List ℕ) (place end : ℕ) (ch
   pub bytes : StandsAt content place (flat_map change_bytes changes)
   pub end_is : place + length (flat_map change_bytes changes) ≡ end
 
--- so many changes stand from the place up to the end, and what they touch was noted
+-- this many changes stand from the place up to the end, and what they touch was noted
 pub record FoundChanges (image : ℕ) (content : List ℕ) (place end count : ℕ) (old new : List TouchedRange) : Type 0 where
   pub changes : List Change
   pub between : StandBetween image content place end changes
   pub count_is : length changes ≡ count
   pub noted : new ≡ old ++ touched_by_changes place changes
 
--- no so many changes stand from the place up to the end
+-- fewer changes than this many stand from the place up to the end
 abbrev pub HasNoChanges : ℕ → List ℕ → ℕ → ℕ → ℕ → Type 0
 HasNoChanges image content place end count = (changes : List Change) → StandBetween image content place end changes → length changes ≡ count → ⊥
 
@@ -86,7 +86,7 @@ pub record IsNextHead (next body first count : ℕ) : Type 0 where
   pub first_is : first ≡ next
   pub numbers : next + count ≤ 18446744073709551616
 
--- the next group stands behind the open gate, and what it touches was noted
+-- the next group stands after the open gate, and what it touches was noted
 pub record FoundGroup (image : ℕ) (content : List ℕ) (gate next gate_behind number : ℕ) (old new : List TouchedRange) : Type 0 where
   pub group : StoredGroup
   pub is_open : IsOpen content gate

@@ -1,4 +1,4 @@
--- What becomes of a list of groups when bytes behind it change.
+-- What becomes of a list of groups when bytes after it change.
 use Rattle.std.proofs.Common.{◌≡◌, ℕ, ◌+◌, ◌≤◌, ◌<◌, List, [], ◌∷◌, ◌++◌, slice_index, sym, ◌∙◌, subst, arith}
 use Rattle.std.proofs.lemmas.List.Sums.{sum_by-cons}
 use Rattle.journal_format.specs.Spelling.{StoredGroup, group_bytes}
@@ -9,7 +9,7 @@ use Rattle.journal_format.specs.laws.Spelled.{length-group}
 pub record IsSameFrom (old new : List ℕ) (from end : ℕ) : Type 0 where
   pub same : (place : ℕ) → from ≤ place → place < end → slice_index new place ≡ slice_index old place
 
--- behind the list stands a gate that isn't open
+-- after the list stands a gate that isn't open
 pub list_ends : (image : ℕ) (content : List ℕ) (place next : ℕ) (groups : List StoredGroup) → Stand image content place next groups → IsOpen content (place + sizes_of groups) → ⊥
 list_ends image content place next [] stand is_open =
     let same : place + 0 ≡ place = omega arith in
@@ -26,7 +26,7 @@ module _ (old new : List ℕ) (place : ℕ) (group : StoredGroup) (end : ℕ) (k
   pub bytes_stay : StandsAt old (place + 1) (group_bytes group) → StandsAt new (place + 1) (group_bytes group)
   bytes_stay stand k below = kept.same (place + 1 + k) (omega arith) (omega (arith, length-group group, below)) ∙ stand k below
 
--- where all in front of the gate behind the list stays, and that gate isn't open, the list stays
+-- where all before the gate after the list stays, and that gate isn't open, the list stays
 pub list_stays : (image : ℕ) (old new : List ℕ) (place next : ℕ) (groups : List StoredGroup) → IsSameFrom old new place (place + sizes_of groups) → (IsOpen new (place + sizes_of groups) → ⊥)
     → Stand image old place next groups → Stand image new place next groups
 list_stays image old new place next [] kept closed stand =
@@ -44,7 +44,7 @@ list_stays image old new place next (group ∷ groups) kept closed stand =
           stand.3,
     )
 
--- and where that gate is open, the next group stands behind it, and then a gate that isn't open, it joins the list
+-- and where that gate is open, the next group stands after it, and then a gate that isn't open, it joins the list
 pub list_grows : (image : ℕ) (old new : List ℕ) (place next : ℕ) (groups : List StoredGroup) (group : StoredGroup) → IsSameFrom old new place (place + sizes_of groups)
     → IsOpen new (place + sizes_of groups) → StandsAt new (place + sizes_of groups + 1) (group_bytes group) → (IsOpen new (place + sizes_of groups + size_of group) → ⊥)
     → IsNextGroup image (next_behind next groups) group → Stand image old place next groups → Stand image new place next (groups ++ group ∷ [])

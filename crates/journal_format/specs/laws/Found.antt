@@ -22,7 +22,7 @@ use Rattle.journal_format.specs.laws.Heads.{stands_append}
 use Rattle.journal_format.specs.laws.OneList.{front, back, same_bytes, same_heads}
 use Rattle.journal_format.specs.laws.Spelled.{length-change_head}
 
--- a change with its head, and with the edges that stand behind it
+-- a change with its head, and with the edges that stand after it
 record Headed (image : ℕ) (change : Change) : Type 0 where
   kind : ℕ
   first : ℕ
@@ -103,7 +103,7 @@ headed image fits (Edged first blocks kind edges bytes) is = record {
     some_least Tail = omega arith
     some_least Both = omega arith
 
--- behind a head stand as many bytes as it says
+-- after a head stand as many bytes as it says
 module _ (image kind first blocks : ℕ) (edges : Option Edges) where
   one_size : (bytes bytes' : ℕ) → IsHead image kind first blocks edges bytes → IsHead image kind first blocks edges bytes' → bytes ≡ bytes'
   one_size bytes bytes' is is' = by_kinds is.kinds is'.kinds
@@ -339,7 +339,7 @@ module _ (image : ℕ) (fits : image < 2 ^ 64) (content : List ℕ) (place : ℕ
       let head = has_head own.kind own.first own.blocks edges (omega (arith, own.first_fits)) (omega (arith, own.blocks_fit)) stands (λ own_kind. refl) other is' bytes' in
       omega (arith, one_size image own.kind own.first own.blocks edges one.bytes head.bytes one.is_head head.is_head, head.size, one.size)
 
--- Of changes that stand from a place up to the end, so many in all, the first were passed: the others stand from here.
+-- Of changes that stand from a place up to the end, this many in all, the first were passed: the others stand from here.
 pub record AreLeft (image : ℕ) (content : List ℕ) (from place end passed count : ℕ) : Type 0 where
   pub rest : (changes : List Change) → StandBetween image content from end changes → length changes ≡ count
       → (left : List Change) × StandBetween image content place end left × (passed + length left ≡ count)
@@ -420,7 +420,7 @@ module _ (image : ℕ) (fits : image < 2 ^ 64) (content : List ℕ) (from place 
             omega (arith, is),
           )
 
-  -- where no change stands next, or where they end elsewhere, so many don't stand
+  -- where no change stands next, or where they end elsewhere, this many don't stand
   pub none_next : HasNoChange image content place end → passed < count → HasNoChanges image content from end count
   none_next none below changes between is = let there = left.rest changes between is in no_first there.0 there.1 there.2
     where
@@ -440,7 +440,7 @@ pub within_append : (from end : ℕ) (xs ys : List TouchedRange) → AreWithin f
 within_append from end [] ys first second = second
 within_append from end (x ∷ xs) ys first second = (first.0, within_append from end xs ys first.1 second)
 
--- the bytes of edges stand between two places where so many blocks of them do
+-- the bytes of edges stand between two places where this many blocks of them do
 pub edges_within : (from end first blocks : ℕ) (edges : Edges) (place stored : ℕ) → from ≤ place → place + 4096 * stored ≤ end → AreWithin from end (edge_ranges first blocks edges place stored)
 edges_within from end first blocks Head place stored low inside = ((omega (arith, low), omega (arith, inside)), tt)
 edges_within from end first blocks Tail place stored low inside = ((omega (arith, low), omega (arith, inside)), tt)

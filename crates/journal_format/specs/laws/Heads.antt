@@ -9,7 +9,7 @@ use Rattle.byteorder.specs.Numbers.{big_from-lt, big_from-append, big_number-rea
 use Rattle.journal_format.specs.Spelling.{change_head, group_head}
 use Rattle.journal_format.specs.GroupList.{StandsAt}
 
--- one list of bytes behind another
+-- one list of bytes after another
 pub stands_append : (content : List ℕ) (place : ℕ) (xs ys : List ℕ) → StandsAt content place xs → StandsAt content (place + length xs) ys → StandsAt content place (xs ++ ys)
 stands_append content place xs ys front back k below = ⊎_elim
     (λ low. front k low ∙ sym (get_or_append_left xs ys 0 k low))

@@ -19,8 +19,8 @@ use Rattle.journal_format.specs.Touches.{byte_after_touch, edge_ranges, kind_aft
 use Rattle.journal_format.specs.laws.OneList.{front, back}
 use Rattle.journal_format.specs.laws.Spelled.{length-change_head, length-group_head}
 
--- where the bytes that a change brings stand, if it stands at this place of the device: behind its head of 13 bytes, and
--- with edges behind the byte that says which
+-- where the bytes that a change brings stand, if it stands at this place of the device: after its head of 13 bytes, and
+-- with edges after the byte that says which
 abbrev pub data_place : ℕ → Change → ℕ
 data_place place (Written first bytes) = place + 13
 data_place place (Cleared first blocks kind) = place + 13
@@ -79,7 +79,7 @@ one_touched block first count place one =
         ap (λ (p : ℕ). Some (Put p)) at
     at_first false is = refl
 
--- the edges of so many blocks
+-- the edges of this many blocks
 put_at : ℕ → Option ℕ → Option Touch
 put_at place None = None
 put_at place (Some at) = Some (Put (place + at))

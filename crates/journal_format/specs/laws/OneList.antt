@@ -119,7 +119,7 @@ same_heads k f n k' f' n' r s f_fits n_fits f'_fits n'_fits same =
       parts.1,
     )
 
--- a change as its head and what stands behind it
+-- a change as its head and what stands after it
 record Parts (image : ℕ) (change : Change) : Type 0 where
   kind : ℕ
   first : ℕ

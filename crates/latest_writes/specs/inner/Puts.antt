@@ -1,4 +1,4 @@
--- What functions of this crate hand to one another, beside `Puts`.
+-- Definitions for contracts between functions of this crate, next to those of `Puts`.
 use Rattle.std.specs.Prelude.{ℕ, ◌+◌, ◌<◌, ◌≤◌, ◌-◌, ◌*◌}
 use Rattle.latest_writes.specs.declared.range.PutRange.{PutRange}
 
@@ -10,7 +10,7 @@ put_from block put = record {
   place = put.place + 4096 * (block - put.first);
 }
 
--- a put ends before or at the block, or behind it
+-- a put ends before or at the block, or after it
 abbrev pub EndsBy : ℕ → PutRange → Type 0
 EndsBy block put = put.first + put.blocks ≤ block
 

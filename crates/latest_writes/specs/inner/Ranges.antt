@@ -1,4 +1,4 @@
--- What functions of this crate hand to one another, beside `Ranges`.
+-- Definitions for contracts between functions of this crate, next to those of `Ranges`.
 use Rattle.std.specs.Prelude.{ℕ, ◌≡◌, ◌+◌, ◌<◌, ◌≤◌, nat_lt, if◌then◌else◌, List, Option, None}
 use Rattle.latest_writes.specs.declared.touch.LastTouch.{LastTouch}
 use Rattle.latest_writes.specs.declared.range.LastRange.{LastRange}

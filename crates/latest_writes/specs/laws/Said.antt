@@ -63,13 +63,13 @@ said_behind first blocks touch block high =
     let outside : covers first blocks block ≡ false = grind (arith, nat_tests) in
     ap (λ (b : Bool). if b then Some (touch_within (block - first) touch) else None) outside
 
--- ranges end where they begin or behind it
+-- ranges end where they begin or after it
 pub AreRanges-order : (from to : ℕ) (ranges : List LastRange) → AreRanges from to ranges → from ≤ to
 AreRanges-order from to [] apart = apart
 AreRanges-order from to (range ∷ ranges) apart =
     let rest = AreRanges-order (range.first + range.blocks) to ranges apart.2 in omega (arith, rest, apart.0)
 
--- ranges that begin later say nothing of a block before them, nor of one behind them
+-- ranges that begin later say nothing of a block before them, nor of one after them
 pub said_by_none_before : (block from to : ℕ) (ranges : List LastRange) → AreRanges from to ranges → block < from → touch_at block ranges ≡ None
 said_by_none_before block from to [] apart low = refl
 said_by_none_before block from to (range ∷ ranges) apart low =
@@ -90,7 +90,7 @@ pub AreRanges-earlier : (earlier from to : ℕ) (ranges : List LastRange) → ea
 AreRanges-earlier earlier from to [] before apart = omega (arith, before, apart)
 AreRanges-earlier earlier from to (range ∷ ranges) before apart = (omega (arith, before, apart.0), apart.1, apart.2)
 
--- the first range says what ranges say of its blocks, and the others of blocks behind it
+-- the first range says what ranges say of its blocks, and the others of blocks after it
 pub touch_at_first : (from to : ℕ) (range : LastRange) (ranges : List LastRange) (block : ℕ) → AreRanges from to (range ∷ ranges) → block < range.first + range.blocks
     → touch_at block (range ∷ ranges) ≡ said_by range.first range.blocks range.touch block
 touch_at_first from to range ranges block apart low =
@@ -100,7 +100,7 @@ pub touch_at_rest : (range : LastRange) (ranges : List LastRange) (block : ℕ) 
 touch_at_rest range ranges block high =
     ap (λ (t : Option LastTouch). later t (touch_at block ranges)) (said_behind range.first range.blocks range.touch block high) ∙ later_none (touch_at block ranges)
 
--- lists one behind the other
+-- lists one after the other
 pub touch_at-append : (block : ℕ) (xs ys : List LastRange) → touch_at block (xs ++ ys) ≡ later (touch_at block xs) (touch_at block ys)
 touch_at-append block [] ys = sym (later_none (touch_at block ys))
 touch_at-append block (x ∷ xs) ys =

@@ -1,4 +1,4 @@
--- What functions of this crate hand to one another, beside `Reply`.
+-- Definitions for contracts between functions of this crate, next to those of `Reply`.
 use Rattle.std.specs.Prelude.{ℕ, ◌+◌, Bool, true, ◌==◌, if◌then◌else◌, List}
 use Rattle.nbd_wire.specs.declared.message.Run.{Run}
 use Rattle.nbd_wire.specs.Answer.{BytesRead, data_status}

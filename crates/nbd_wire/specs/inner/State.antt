@@ -1,4 +1,4 @@
--- What functions of this crate hand to one another, beside `State`.
+-- Definitions for contracts between functions of this crate, next to those of `State`.
 use Rattle.std.specs.Prelude.{◌≡◌, ℕ, ◌-◌, ◌^◌, Option, Some, None, List, [], ◌∷◌, ◌++◌, length}
 use Rattle.std.specs.Io.KnownBytes.{Consumes, IsAtEnd}
 use Rattle.nbd_wire.specs.declared.stream.State.{State}
@@ -18,7 +18,7 @@ abbrev pub found : Option Message → List Message
 found None = []
 found (Some request) = request ∷ []
 
--- what was kept, and these bytes behind it, is these requests, and then what is kept
+-- what was kept, and these bytes after it, is these requests, and then what is kept
 abbrev pub Advances : Kept → List ℕ → List Message → Kept → Type 0
 Advances old bytes requests new = (text : List ℕ) → Keeps old text → Reads (text ++ bytes) requests new
 
@@ -39,7 +39,7 @@ IsGoing starved = ⊥
 abbrev pub IsQuiet : State × Option Message → Type 0
 IsQuiet step = (step.1 ≡ None) × IsGoing (reading (kept step.0))
 
--- so many bytes were read off a stream, and stand behind those before
+-- this many bytes were read off a stream, and stand after those before
 pub record IsReadBehind (before : List ℕ) (input left : Option (List ℕ)) (count : ℕ) (after : List ℕ) : Type 0 where
   pub piece : List ℕ
   pub len : length piece ≡ count

@@ -87,7 +87,7 @@ joined a b c d e f = a ++ (b ++ (c ++ (d ++ (e ++ f))))
 joined_same : (a b c d e f a' b' c' d' e' f' : List ℕ) → a ≡ a' → b ≡ b' → c ≡ c' → d ≡ d' → e ≡ e' → f ≡ f' → joined a b c d e f ≡ joined a' b' c' d' e' f'
 joined_same a b c d e f a' b' c' d' e' f' p q r s t u = λ i. joined (p i) (q i) (r i) (s i) (t i) (u i)
 
--- what is behind place i, by its first n elements
+-- what is after place i, by its first n elements
 split_at : (i n : ℕ) (bytes : List ℕ) → drop i bytes ≡ take n (drop i bytes) ++ drop (i + n) bytes
 split_at i n bytes = sym (take-append-drop n (drop i bytes)) ∙ ap (λ (x : List ℕ). take n (drop i bytes) ++ x) (drop-drop n i bytes)
 

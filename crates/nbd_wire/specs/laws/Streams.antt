@@ -33,7 +33,7 @@ Advances-then first second ms ns old between new one two text keeps =
     subst (λ (t : List ℕ). Reads t (ms ++ ns) new) (append_assoc text first second)
     (Reads-then (text ++ first) second ms ns between new (one text keeps) two)
 
--- a reader that reads a piece bit by bit: what is behind is still to be read
+-- a reader that reads a piece bit by bit: what is after is still to be read
 pub record Step (piece behind : List ℕ) (old new : Kept) (requests : List Message) : Type 0 where
   pub taken : List ℕ
   pub parts : piece ≡ taken ++ behind
@@ -212,7 +212,7 @@ Run-reads stream before old new (fed ∷ feeds) reads run =
 pub whole_stream_lem : (feeds : List Fed) (kept : Kept) → IsRun fresh feeds (reading kept) → Reads (all_bytes feeds) (all_requests feeds) kept
 whole_stream_lem feeds kept run = Run-reads [] [] (in_head []) kept feeds (omega arith, refl) run
 
--- a stream goes on behind its first requests
+-- a stream goes on after its first requests
 Begins-same : (stream other : List ℕ) (requests others : List Message) → stream ≡ other → requests ≡ others → Begins stream requests → Begins other others
 Begins-same stream other requests others p q begins =
     record { first = begins.first; rest = begins.rest; kept = begins.kept; parts = sym p ∙ begins.parts; reads = subst (λ (ms : List Message). Reads begins.first ms begins.kept) q begins.reads }

@@ -1,4 +1,4 @@
--- What functions of this crate hand to one another, beside `Causes`.
+-- Definitions for contracts between functions of this crate, next to those of `Causes`.
 use Rattle.std.specs.Prelude.{◌≡◌, true, false, Ok}
 use Rattle.image_model.specs.Edit.{becomes}
 use Rattle.nbd_wire.specs.Request.{Message}

@@ -76,7 +76,7 @@ pub record IsEmptied (old new : Stage) : Type 0 where
   pub base : new.base ≡ old.stored
   pub clean : len (dirty_behind new.cleaned new) ≤ len (dirty_behind new.base new)
 
--- The device works, and the group in hand, with the gate behind it, doesn't fit the rest of the area.
+-- The device works, and the group in hand, with the gate after it, doesn't fit the rest of the area.
 pub record HasFullArea (world : World) : Type 0 where
   pub works : world.stage.stopped ≡ false
   pub hand : world.stage.stored < world.stage.sealed

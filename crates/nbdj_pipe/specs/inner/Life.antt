@@ -1,4 +1,4 @@
--- What functions of this crate hand to one another, beside `Life`.
+-- Definitions for contracts between functions of this crate, next to those of `Life`.
 use Rattle.std.specs.Prelude.{ℕ, ◌≡◌, List, Ok}
 use Rattle.checkpoint.specs.Opening.{IsOpening}
 use Rattle.checkpoint.specs.Recovery.{IsRecovered}

@@ -1,4 +1,4 @@
--- What functions of this crate hand to one another, beside `Refusals`.
+-- Definitions for contracts between functions of this crate, next to those of `Refusals`.
 use Rattle.front_end.specs.declared.refusal.Refusal.{Refusal}
 use Rattle.front_end.specs.declared.refusal.Refusal.TheVariants.{NoMemory, DeviceFault, BadMap, NoHeader, BadHeader, NumbersFull, AreaFull, OutOfOrder, DamagedGroup, NotNow, Failed, NoRoom, PeerClosed, ProtocolEnd, StreamFault, AreaSmall}
 

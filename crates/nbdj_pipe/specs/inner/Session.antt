@@ -54,7 +54,7 @@ Runs state faults honest order keeper connections order' keeper' connections' ex
     × Follows world next (talk_to exchanges last) order' keeper' (faults keeper'.disk) connections' (Trusts trusted (honest keeper'.disk)) (state keeper.disk) (state keeper'.disk)
     × IfErr outcome (λ refusal. HasCause refusal world next)
 
--- A request got its reply; a DISC gets none. A refusal may come before the answer or behind it, and no reply is due then.
+-- A request got its reply; a DISC gets none. A refusal may come before the answer or after it, and no reply is due then.
 abbrev pub Serves : Message → List ℕ → List ℕ → Result Flow Refusal → (List Exchange → Option Message → Result (Unit {0}) Refusal → Type 0) → Type 0
 Serves request old new (Ok Flow.Ended) run = (request.head.kind ≡ 2) × (new ≡ old) × run [] (Some request) (Ok tt)
 Serves request old new (Ok Flow.Open) run =

@@ -1,4 +1,4 @@
--- What functions of this crate hand to one another, beside `Hearing`.
+-- Definitions for contracts between functions of this crate, next to those of `Hearing`.
 use Rattle.std.specs.Prelude.{ℕ, Result, Ok, Err, ◌<◌, List, Option, length}
 use Rattle.std.specs.Global.{Vec}
 use Rattle.nbd_wire.specs.Request.{Message}

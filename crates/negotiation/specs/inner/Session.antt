@@ -1,4 +1,4 @@
--- What functions of this crate hand to one another, beside `Session`.
+-- Definitions for contracts between functions of this crate, next to those of `Session`.
 use Rattle.std.specs.Prelude.{◌≡◌, ◌⊎◌, ℕ, Option, Some, List, [], ◌++◌, length, ◌+◌, ◌-◌, ◌<◌, ◌≤◌, ◌∷◌}
 use Rattle.std.specs.Io.KnownBytes.{Consumes, IsAtEnd}
 use Rattle.nbd_wire.specs.Request.{Message}
@@ -30,7 +30,7 @@ wanted_of stages.Ended = 0
 wanted_of stages.Broken = 0
 wanted_of stages.Exhausted = 0
 
--- what is read behind an option
+-- what is read after an option
 abbrev pub standing_behind : Next → Standing
 standing_behind behind.Option = in_head []
 standing_behind behind.Transmission = in_requests fresh
@@ -92,7 +92,7 @@ pub record Advances (old : SessionState) (front before after : List ℕ) (new : 
   pub hears : HearsOn old front turns [] new
   pub written : after ≡ before ++ answers_text turns
 
--- What was left of the piece behind the handshake was read, to its end but where memory ran out.
+-- What was left of the piece after the handshake was read, to its end but where memory ran out.
 pub record Hands (old : Standing) (piece : List ℕ) (requests : List Message) (new : Standing) : Type 0 where
   pub first : List ℕ
   pub rest : List ℕ
@@ -104,7 +104,7 @@ pub record Hands (old : Standing) (piece : List ℕ) (requests : List Message) (
       (record { offer = offer; agreed = agreed; standing = between })
   pub whole : ((end_of new ≡ Some NoMemory) × ((requests ≡ []) ⊎ IsBehind between)) ⊎ ((rest ≡ []) × (new ≡ between))
 
--- so many bytes were read off a stream, as a piece behind the handshake that ends no request
+-- this many bytes were read off a stream, as a piece after the handshake that ends no request
 pub record HandsNone (old : Standing) (input left : Option (List ℕ)) (count : ℕ) (new : Standing) : Type 0 where
   pub piece : List ℕ
   pub len : length piece ≡ count

@@ -25,7 +25,7 @@ pub record Goes (offer : Offer) (piece : List ℕ) (turns : List Turn) (requests
   pub breaks : s ≡ broken → (turns ≡ []) × IsOver settled (outcome requests settled' s') broken
 
 module _ (offer : Offer) (piece : List ℕ) (turns : List Turn) (requests : List Message) (settled settled' : Agreed) (s s' : Standing) (goes : Goes offer piece turns requests settled settled' s s') where
-  -- behind the last option
+  -- after the last option
   last_goes : (agreed : Agreed) (asked : List Message) (end : Standing) (before : List Turn) (made : (turns ≡ []) × IsOver settled (outcome requests settled' s') end) → before ≡ [] → IsOver agreed (outcome asked settled s) end
       → (before ++ turns ≡ []) × IsOver agreed (outcome (asked ++ requests) settled' s') end
   last_goes agreed asked end before made none over = (

@@ -30,7 +30,7 @@ most_kept code =
       | false ↦ (omega arith, omega arith)
     ]
 
--- what is left of an option with so many bytes of data, of which these were sent
+-- what is left of an option with this many bytes of data, of which these were sent
 abbrev left_of : ℕ → ℕ → List ℕ → Standing
 left_of code size sent = cond (leb size kept_limit) (in_option code size sent) (cond (leb size (most_bytes code)) (in_discard code (size - length sent)) broken)
 

@@ -42,7 +42,7 @@ before_first-append p (x ∷ xs) ys none =
     subst (λ (b : Bool). take (cond (not b) (1 + position_or_len p (xs ++ ys)) 0) (x ∷ (xs ++ ys)) ≡ x ∷ (xs ++ before_first p ys)) (sym both.0)
     (take_step (position_or_len p (xs ++ ys)) x (xs ++ ys) ∙ ap (λ t. x ∷ t) (before_first-append p xs ys both.1))
 
--- what stands behind the first that passes makes no difference
+-- what stands after the first that passes makes no difference
 pub before_first-found : {X : Type 0} (p : X → Bool) (xs ys : List X) → list_any p xs ≡ true → before_first p (xs ++ ys) ≡ before_first p xs
 before_first-found p [] ys some = absurd (cc some)
 before_first-found p (x ∷ xs) ys some =

@@ -26,7 +26,7 @@ number_64 n m x y p q same =
     let both = same_front (to_be_bytes w64 n) (to_be_bytes w64 m) x y refl same in
     (sym (from_be_bytes-to_be_bytes_8 n p) ∙ ap (from_be_bytes w64) both.0 ∙ from_be_bytes-to_be_bytes_8 m q, both.1)
 
--- what stands behind the number of a string's bytes
+-- what stands after the number of a string's bytes
 counted_is : (text x : List ℕ) → counted text ++ x ≡ to_be_bytes w32 (length text) ++ (text ++ x)
 counted_is text x = append_assoc (to_be_bytes w32 (length text)) text x
 
@@ -53,6 +53,6 @@ no_text content rest text behind len fits whole short text_fits same =
     let both = number_32 len (length text) rest (text ++ behind) fits text_fits (sym whole ∙ same ∙ counted_is text behind) in
     omega (arith, short, both.0, ap length both.1, length-append text behind)
 
--- what stands behind a string
+-- what stands after a string
 pub behind_text : (content text rest other behind : List ℕ) → IsText text → IsText other → content ≡ counted text ++ rest → content ≡ counted other ++ behind → rest ≡ behind
 behind_text content text rest other behind p q whole same = (one_text text other rest behind p q (sym whole ∙ same)).1

@@ -1,4 +1,4 @@
--- What functions of this crate hand to one another, beside `Edits`.
+-- Definitions for contracts between functions of this crate, next to those of `Edits`.
 use Rattle.std.specs.Prelude.{ℕ, ◌≡◌, ◌+◌, ◌-◌, ◌*◌, ◌/◌, ◌%◌, Bool, true, false, max, min, List, ◌++◌, length, take, drop, replicate, Option, Some, None}
 use Rattle.image_model.specs.declared.command.Command.{Command}
 use Rattle.image_model.specs.declared.command.Command.TheVariants as command
@@ -15,7 +15,7 @@ abbrev pub put_bytes : List ℕ → ℕ → List ℕ → List ℕ → List ℕ
 put_bytes first offset bytes last =
     (take (offset % 4096) first ++ bytes) ++ drop (offset % 4096 + length bytes - 4096 * (blocks_met offset (length bytes) - 1)) last
 
--- the old bytes of a block, zero where so many bytes from the offset on stand
+-- the old bytes of a block, zero where this many bytes from the offset on stand
 abbrev pub zeroed_block : ℕ → ℕ → ℕ → List ℕ → List ℕ
 zeroed_block offset count block old =
     let from = max offset (4096 * block) - 4096 * block in

@@ -1,4 +1,4 @@
--- What functions of this crate hand to one another, beside `Order`.
+-- Definitions for contracts between functions of this crate, next to those of `Order`.
 use Rattle.std.specs.Prelude.{Option}
 use Rattle.image_model.specs.declared.command.Command.{Command}
 use Rattle.image_model.specs.Change.{change_of}

@@ -1,9 +1,9 @@
--- What functions of this crate hand to one another, beside `Pending`.
+-- Definitions for contracts between functions of this crate, next to those of `Pending`.
 use Rattle.std.specs.Prelude.{ℕ, ◌≤◌, ◌<◌, List, length, take}
 use Rattle.image_model.specs.declared.command.Command.{Command}
 use Rattle.image_model.specs.Command.{bodies_of}
 
--- so many commands fit into the limit, and no more of them do
+-- this many commands fit into the limit, and no more of them do
 pub record IsLongest (limit : ℕ) (commands : List Command) (count : ℕ) : Type 0 where
   pub within : count ≤ length commands
   pub fits : bodies_of (take count commands) ≤ limit

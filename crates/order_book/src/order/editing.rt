@@ -63,8 +63,8 @@ impl<B: BoardName> Order<B> {
             && self.backlog.total() + body_for(&self.cache, edit) <= MOST_BACKLOG_BYTES
     }
 
-    /// Takes an edit whose old bytes are in memory, as far as it needs any, as the command that it becomes over all that was
-    /// accepted; else as `accept_edit`. The bytes of a put of whole blocks are those of its command, and aren't copied.
+    /// Does what `accept_edit` does for an edit whose old bytes, if it needs any, are in memory. The bytes of a put of whole blocks
+    /// become those of its command, and aren't copied.
     ///
     /// Refusals 18 (stopped), 9 (numbers full), 17 (no room), 0 (no memory), in this order.
     pub fn accept_held<T: Trust>(
@@ -178,13 +178,13 @@ impl<B: BoardName> Order<B> {
         }
     }
 
-    /// Takes an edit as the last command, for a pass, and gives its number, to which the board is raised; a refusal hands it
-    /// back. The command is what the edit becomes over all that was accepted: of a block that it puts or zeroes in part the
-    /// other bytes are those of its frame, or zero where it isn't data, or else those of the data region, which are read from the
-    /// device and not kept in memory. Edits of whole blocks and trims need no old bytes.
+    /// Accepts an edit as the last command, for a pass: it raises the board to the command's number, and returns that. A refusal
+    /// hands the edit back. The command is what the edit becomes over all that was accepted. If the edit puts or zeroes a block in
+    /// part, the other bytes are those of its frame, or zero if it isn't data, or are read from the data region and not kept in
+    /// memory. Edits of whole blocks and trims need no old bytes.
     ///
     /// The refusals, in the order in which they are looked for: 18 (stopped), 9 (numbers full), 17 (no room), 0 (no memory);
-    /// then 1 (device fault), or 16 (failed) after an earlier one, where a block is to be read; memory may be refused after that too.
+    /// then 1 (device fault), or 16 (failed) after an earlier one, if a block is to be read; memory may run out after that too.
     pub fn accept_edit<D: Disk, T: Trust>(
         &mut self,
         keeper: &mut Keeper<D>,

@@ -21,7 +21,7 @@ pub behind_below : (count n area : ℕ) → area < count → behind count n area
 behind_below count zero area below = below
 behind_below count (suc n) area below = behind_below count n (next_of count area) (next_below count area below)
 
--- the number of the area so many places behind
+-- the number of the area this many places after
 pub behind_is : (count n area : ℕ) → area < count → n < count → ((area + n < count) × (behind count n area ≡ area + n)) ⊎ ((count ≤ area + n) × (behind count n area + count ≡ area + n))
 behind_is count zero area below few = inl (omega (arith, below), omega arith)
 behind_is count (suc n) area below few = ⊎_elim
@@ -48,7 +48,7 @@ behind_apart count j k area below less few same = ⊎_elim
     (behind_is count k area below few))
     (behind_is count j area below (omega (arith, less, few)))
 
--- the areas in a ring are those in front of the last, and the last
+-- the areas in a ring are those before the last, and the last
 pub ring-last : (count n area : ℕ) → ring count (suc n) area ≡ ring count n area ++ behind count n area ∷ []
 ring-last count zero area = refl
 ring-last count (suc n) area = ap (λ (rest : List ℕ). area ∷ rest) (ring-last count n (next_of count area))

@@ -1,4 +1,4 @@
--- What functions of this crate hand to one another.
+-- Definitions for contracts between functions of this crate.
 use Rattle.std.specs.Prelude.{◌≡◌, vec_len}
 use Rattle.image_model.specs.declared.edit.Edit.{Edit}
 use Rattle.image_model.specs.declared.edit.Edit.TheVariants as edit

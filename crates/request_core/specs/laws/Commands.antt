@@ -17,7 +17,7 @@ pub apply_append : (xs ys : List Change) (image : Image) → apply_all (xs ++ ys
 apply_append [] ys image = refl
 apply_append (x ∷ xs) ys image = apply_append xs ys (apply x image)
 
--- what holds of each holds of those behind and of those in front
+-- what holds of each holds of those after and of those before
 pub all_behind : {X : Type 0} (P : X → Type 0) (xs ys : List X) → AllByRecursion P (xs ++ ys) → AllByRecursion P ys
 all_behind P [] ys all = all
 all_behind P (x ∷ xs) ys all = all_behind P xs ys all.1

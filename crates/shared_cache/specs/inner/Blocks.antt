@@ -1,4 +1,4 @@
--- What functions of this crate hand to one another, beside `Blocks`.
+-- Definitions for contracts between functions of this crate, next to those of `Blocks`.
 use Rattle.std.specs.Prelude.{◌≡◌, ◌≤◌, ◌+◌, drop, ℕ, ◌≢◌}
 use Rattle.shared_cache.specs.Blocks.{BlocksState, taken}
 use Rattle.shared_cache.specs.Held.{HeldState, block_at, held_times}

@@ -15,7 +15,7 @@ use Rattle.shared_cache.specs.laws.Once.{absent_all, all_held, all_held-without,
 use Rattle.shared_cache.specs.laws.Ranges.{at_hand_put, clean_le, count_put, covers_true, outside_le}
 use Rattle.shared_cache.specs.laws.Views.{base_of, base_times, held_put, left_of, left_times, put_once, shows_clear, shows_put, true_false, zero_seen}
 
--- a block before a range or behind it
+-- a block before a range or after it
 before : (first count block : ℕ) → block < first → covers first count block ≡ false
 before first count block below = rw (lt-leb first block below) refl
 
@@ -47,7 +47,7 @@ hand_puts number first [] s = omega arith
 hand_puts number first (bytes ∷ blocks) s =
     omega (arith, at_hand_put number first bytes s, hand_puts number (first + 1) blocks (with_put number first bytes s), count_put number first (first + 1) (length blocks) bytes s (omega arith))
 
--- the edges find frames: those of the head once what lies between is let go, and those of the tail behind those of the head
+-- the edges find frames: those of the head once what lies between is let go, and those of the tail after those of the head
 pub room_at_head : (first count head tail : ℕ) (s mid : BlocksState) → head + tail ≤ count → edges_missing first count head tail s ≤ at_hand s
     → mid ≡ without (covers (first + head) (first + count - tail - (first + head))) s → count_missing first head mid ≤ at_hand mid
 room_at_head first count head tail s mid fits room is =
@@ -221,7 +221,7 @@ module _ (number first count : ℕ) (kind : Kind) (head tail : List (List ℕ)) 
         ]
       ]
 
-  -- a block outside the head keeps its bytes behind it, and one outside the tail
+  -- a block outside the head keeps its bytes after it, and one outside the tail
   written_stays : (block : ℕ) (bytes : List ℕ) → covers behind (length tail) block ≡ false → is_dirty block headed.blocks ≡ true
       → bytes_seen headed block ≡ Some bytes → bytes_seen last block ≡ Some bytes
   written_stays block bytes beyond dirty seen =

@@ -19,7 +19,7 @@ frames_of-others frame (held ∷ dirty) =
       | inr p ↦ rw p.0 (ap (λ (list : List ℕ). held.frame ∷ list) (frames_of-others frame dirty))
     ]
 
--- how often a frame stands in a list behind which one was put
+-- how often a frame stands in a list after which one was put
 times-last : (frame other : ℕ) (xs : List ℕ) → times other (without frame xs ++ frame ∷ []) ≡ times other (without frame xs) + times other (frame ∷ [])
 times-last frame other xs = times-append other (without frame xs) (frame ∷ [])
 

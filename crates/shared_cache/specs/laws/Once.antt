@@ -16,7 +16,7 @@ pub times_in-append : (block : ℕ) (xs ys : List CleanBlock) → times_in block
 times_in-append block [] ys = omega arith
 times_in-append block (x ∷ xs) ys = omega (arith, times_in-append block xs ys)
 
--- the bytes that the first of some blocks has, else those of the first behind them
+-- the bytes that the first of some blocks has, else those of the first after them
 pub clean_bytes-append : (block : ℕ) (xs ys : List CleanBlock) → clean_bytes block (xs ++ ys) ≡ option_or (clean_bytes block xs) (clean_bytes block ys)
 clean_bytes-append block [] ys = refl
 clean_bytes-append block (x ∷ xs) ys = elim (cases_Bool (eqb x.block block)) [ inl e ↦ rw e refl | inr e ↦ rw e (clean_bytes-append block xs ys) ]

@@ -143,7 +143,7 @@ without-without p q r both s =
         → (let s : BlocksState = record { free = free; clean = clean; dirty = dirty } in s) ≡ record { free = free'; clean = clean'; dirty = dirty' }
     made free free' clean clean' dirty dirty' a b c = rw (a, b, c) refl
 
--- a range and the block behind it
+-- a range and the block after it
 pub covers_next : (first offset b : ℕ) → covers first (offset + 1) b ≡ (covers first offset b || eqb b (first + offset))
 covers_next first offset b =
     elim (cases_lt b (first + offset)) [

@@ -40,7 +40,7 @@ option_or-none : (x : Option (List ℕ)) → option_or x None ≡ x
 option_or-none None = refl
 option_or-none (Some bytes) = refl
 
--- a block is dirty behind a put of it
+-- a block is dirty after a put of it
 put_dirty : (number block : ℕ) (bytes : List ℕ) (s : BlocksState) → is_dirty block (with_put number block bytes s) ≡ true
 put_dirty number block bytes s = at_end block (dirty_outside (λ b. b == block) s.dirty) (record { block = block; number = number; bytes = bytes }) refl
   where
@@ -194,7 +194,7 @@ puts_own number first (bytes ∷ blocks) s is (suc k) d below =
     ap (λ (b : ℕ). bytes_of b (with_puts number (first + 1) blocks mid)) further
     ∙ puts_own number (first + 1) blocks mid (put_once number first bytes s is) k d (omega (arith, below))
 
--- which blocks are dirty behind puts
+-- which blocks are dirty after puts
 puts_dirty : (number first : ℕ) (blocks : List (List ℕ)) (s : BlocksState) (other : ℕ)
     → is_dirty other (with_puts number first blocks s) ≡ (covers first (length blocks) other || is_dirty other s)
 puts_dirty number first [] s other = rw (covers_none first other) refl
@@ -367,7 +367,7 @@ missing_seen cache block none =
         some_none : (bytes : List ℕ) → Some bytes ≡ None → ⊥
         some_none bytes e = cc
 
--- the state of a block behind a range that was set
+-- the state of a block after a range that was set
 set_in : (old : CacheState) (new : List Kind) (first count : ℕ) (kind : Kind) → first + count ≤ length old.states → new ≡ patched old.states first (replicate count kind)
     → (block : ℕ) → state_at new block ≡ (if covers first count block then kind else state_at old.states block)
 set_in old new first count kind inside is block =

@@ -7,7 +7,7 @@ use Rattle.checkpoint.specs.inner.Format.{AreClosed}
 use Rattle.checkpoint.proofs.Answered.{failed_counted}
 use Rattle.checkpoint.proofs.format.write_device.Goals as goal
 
--- That the header is opened right behind what was written for it is searched for.
+-- That the header is opened right after what was written for it is searched for.
 closed_there : {state other : State} → AreClosed state → state ≡ other → AreClosed other
 closed_there closed same = subst AreClosed same closed
 

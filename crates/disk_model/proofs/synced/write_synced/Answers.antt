@@ -4,7 +4,7 @@ use Rattle.disk_model.specs.Disk.{IsStored, IsSynced, IsWritten, State}
 use Rattle.disk_model.specs.laws.Moments.{stays_on}
 use Rattle.disk_model.proofs.synced.write_synced.Goals as goal
 
--- what was written is stable behind a good sync
+-- what was written is stable after a good sync
 made_stable : (before mid after : State) (offset : ℕ) (bytes : List ℕ) → IsWritten before offset bytes mid → IsSynced mid after → IsStored before offset bytes after
 made_stable before mid after offset bytes written synced = record {
   written = λ k below steady. synced.seen.same (offset + k) (λ loose. steady (written.loose (offset + k) loose)) ∙ written.written k below steady;

@@ -9,7 +9,7 @@ use Rattle.journal.specs.Append.{grown}
 use Rattle.journal.proofs.Refused.{ok_apart, same_fault}
 use Rattle.journal.proofs.area.Area.append.Goals as goal
 
--- an area with the group noted, once its gate and its next number are behind it
+-- an area with the group noted, once its gate and its next number are after it
 grown_at : (old noted inside : AreaState) (group : Numbered) (bytes next : ℕ) → inside ≡ noted → noted ≡ record old { touched = (grown old group).touched } → bytes ≡ bodies_of group.commands → next ≡ number_after group
     → record inside { next = next; gate = inside.gate + (17 + bytes) } ≡ grown old group
 grown_at old noted inside group bytes next inside_is noted_is bytes_are next_is =

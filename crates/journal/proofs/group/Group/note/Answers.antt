@@ -11,7 +11,7 @@ use Rattle.journal_format.specs.laws.Noted.{noted_more, noted_within}
 use Rattle.journal.proofs.Bodies.{at_commands, body_within}
 use Rattle.journal.proofs.group.Group.note.Goals as goal
 
--- a list that others were put behind begins as it was
+-- a list that others were put after begins as it was
 begins_more : (old more new : List TouchedRange) → new ≡ old ++ more → take (length old) new ≡ old
 begins_more old more new is =
     ap (λ (list : List TouchedRange). take (length old) list) is ∙ take-append-le (length old) old more (omega arith) ∙ take_all (length old) old (omega arith)

@@ -140,7 +140,7 @@ returns-then-end-bytes g c = record {
       (area.from + c.args.end) _ c.in-Some.ensures.some (omega (arith, c.if-end-bytes.true));
 }
 
--- the place of the data, with the area's first byte in front or behind
+-- the place of the data, with the area's first byte before or after
 moved_plain : (from place first blocks kind : ℕ) (ranges : List TouchedRange)
     → ((IsEdgedKind kind → ⊥) → ranges ≡ record { first = first; blocks = blocks; touch = touch_of_head kind (from + (place + 13)) } ∷ [])
     → (IsEdgedKind kind → ⊥) → ranges ≡ record { first = first; blocks = blocks; touch = touch_of_head kind (from + place + 13) } ∷ []

@@ -95,7 +95,7 @@ returns-in_err-note g c = record {
   damaged = λ honest content known damaged. absurd (memory_undamaged c.from_residual-in_err-note.result c.from_residual-in_err-note.ensures.1 damaged);
 }
 
--- where all were read and the end isn't reached, so many changes don't stand up to it
+-- where all were read and the end isn't reached, this many changes don't stand up to it
 none_left : (image : ℕ) (content : List ℕ) (place end passed count : ℕ) (left : List Change) → StandBetween image content place end left → passed + length left ≡ count → count ≤ passed → (place ≡ end → ⊥) → ⊥
 none_left image content place end passed count [] between is all apart =
     let same : place ≡ end = omega (arith, between.end_is) in

@@ -7,7 +7,7 @@ use Rattle.nbdj_pipe.specs.inner.Export.{Settles}
 use Rattle.nbdj_pipe.proofs.Causes.{HasStored}
 use Rattle.nbdj_pipe.proofs.export.Export.store_all.Given as goal
 
--- so many groups were stored
+-- this many groups were stored
 abbrev pub invariant-loop-groups : goal.invariant-loop-groups
 invariant-loop-groups g l =
     let disk = g.D.Disk in
