@@ -4,7 +4,7 @@
 set -u
 here=$(CDPATH='' cd "$(dirname "$0")/.." && pwd)
 . "$here/tests/checks.sh"
-${CC:-cc} -Wall -Werror -shared -fPIC -O2 -o fail_calls.so "$here/tests/preloads/fail_calls.c" -ldl || exit 1
+preload fail_calls
 
 # called FAIL WORD..: runs the program with this call failing, none where FAIL is empty; `calls` has those that it made
 called() {

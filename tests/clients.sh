@@ -63,14 +63,10 @@ serves() {
     # The signal of a kill goes to the program itself, whose number is kept; the limit ends it where a check hangs.
     timeout 150 sh -c 'echo $$ >server_pid; exec "$@"' sh "$NBDJ" serve d.img $address "$@" >heard 2>serve_errors &
     server=$!
-    tries=0
-    while ! grep -q '^listening ' heard && [ $tries -lt 200 ] && kill -0 "$server" 2>/dev/null; do
-        sleep 0.05
-        tries=$((tries + 1))
-    done
+    await_listening 20
     case $transport in
-    tcp) uri=nbd://127.0.0.1:$(sed -n 's/^listening //p' heard) where="127.0.0.1 $(sed -n 's/^listening //p' heard)" ;;
-    unix) uri="nbd+unix:///?socket=$(sed -n 's/^listening //p' heard)" where="-unix $(sed -n 's/^listening //p' heard)" ;;
+    tcp) where="127.0.0.1 $at" ;;
+    unix) where="-unix $at" ;;
     esac
     is "$transport: the server listens" "listening" "$(cut -d ' ' -f 1 heard; grep -v '^nbdj: d.img: recovered ' serve_errors)"
 }
@@ -88,14 +84,6 @@ killed() {
 recovered() {
     "$NBDJ" recover d.img >output 2>errors
     is "$1: the recovery" '0|commands|' "$?|$(cut -d ' ' -f 1 output)|$(cat errors)"
-}
-
-# quiet WORD..: runs a client, at most 60 seconds; its status, and where that isn't 0 what it said
-quiet() {
-    timeout 60 "$@" >output 2>&1 </dev/null
-    status=$?
-    echo "$status"
-    [ $status -eq 0 ] || tail -n 3 output
 }
 
 # held NAME: what a recovered image holds, served again and copied to `found` (the data region alone doesn't tell: a hole's bytes may be
@@ -508,11 +496,7 @@ if has qemu-io; then
     for at in 1M 3M; do
         is "a session of two at $at" 0 "$(quiet qemu-io -f raw -t unsafe -c "write -s piece $at 128k" "$uri")"
     done
-    tries=0
-    while kill -0 "$server" 2>/dev/null && [ $tries -lt 400 ]; do
-        sleep 0.05
-        tries=$((tries + 1))
-    done
+    wait_for 20 is_gone "$server"
     kill "$server" 2>/dev/null
     wait "$server" 2>wait
     is 'the end behind two sessions' '0||no' "$?|$(cat serve_errors)|$([ -e socket ] && echo yes || echo no)"
@@ -645,22 +629,15 @@ file_of() {
     timeout 120 nbdfuse -P fuse_pid export "$uri" >fuse_output 2>&1 &
     fuser=$!
     fuse=$folder/export
-    tries=0
-    while [ ! -e export/nbd ] && [ $tries -lt 100 ] && kill -0 $fuser 2>/dev/null; do
-        sleep 0.05
-        tries=$((tries + 1))
-    done
+    wait_for 10 is_exported_or_gone
     [ -e export/nbd ]
 }
+is_exported_or_gone() { [ -e export/nbd ] || is_gone $fuser; }
 # released: the file system is let go, and so is all that it stands on
 released() {
     [ -z "$mounted" ] || timeout 30 umount "$mounted" 2>/dev/null
     # (its loop device is let go a moment later)
-    tries=0
-    while [ $tries -lt 100 ] && ! umount "$fuse" 2>/dev/null; do
-        sleep 0.05
-        tries=$((tries + 1))
-    done
+    wait_for 10 umount "$fuse" 2>/dev/null
     wait $fuser 2>wait
     mounted='' fuse=''
 }
@@ -693,11 +670,7 @@ file_system() {
             done
         ) >>synced 2>/dev/null &
         writer=$!
-        tries=0
-        while [ "$(wc -l <synced)" -lt 10 ] && [ $tries -lt 200 ]; do
-            sleep 0.05
-            tries=$((tries + 1))
-        done
+        wait_for 20 has_lines synced 10
         kill -9 "$(cat server_pid)"
         wait $writer
         released
@@ -711,7 +684,7 @@ file_system() {
             debugfs -R "dump synced_$k out" found >output 2>&1
             same "the synced file $k" tree/below/file_$k out
         done
-        is 'files were synced up to the kill' yes "$([ "$(wc -l <synced)" -ge 10 ] && echo yes)"
+        is 'files were synced up to the kill' yes "$(has_lines synced 10 && echo yes)"
         differ=''
         for k in $(cat synced); do
             rm -f out

@@ -6,34 +6,15 @@ import os
 import resource
 import signal
 import socket
-import struct
 import subprocess
 import sys
 import tempfile
 
-NBDJ = os.environ["NBDJ"]
-BLOCK, WRITE, DISC, FLUSH, NO_SPACE = 4096, 1, 2, 3, 28
-passed, failed = 0, 0
+import checks
+from checks import BLOCK, DISC, ENOSPC, FLUSH, NBDJ, WRITE, check, format_image, reply, request
 
 SCRIPT = b"format 16 2097152 512\nsend 1 put 0 1 41\nserve 1\nanswer 1\nseal\ncrash at 3 01\nappend\n"
 PRINTED = b"done\ndone\ndone\nanswer 1 ok\ndone\narmed\nstopped\nopened 1\nrun 0 1 d 41\nrun 1 15 h 00\n"
-
-
-def check(name, wanted, got):
-    global passed, failed
-    if wanted == got:
-        passed += 1
-    else:
-        failed += 1
-        print(f"FAILED {name}\n  wanted: {wanted}\n  got:    {got}", flush=True)
-
-
-def request(kind, cookie, offset, data):
-    return struct.pack(">IHHQQI", 0x25609513, 0, kind, cookie, offset, len(data)) + data
-
-
-def reply(cookie, error=0):
-    return struct.pack(">IIQ", 0x67446698, error, cookie)
 
 
 def run(words, pieces, **settings):
@@ -54,9 +35,9 @@ def run(words, pieces, **settings):
 
 def cut_streams():
     """A FLUSH, a WRITE that goes past the end, and a DISC, cut in two at each place, and ended there."""
-    subprocess.run([NBDJ, "format", "d.img", "--blocks", "16", "--area", "2097152"], check=True, stdout=subprocess.DEVNULL)
-    requests = [request(FLUSH, 1, 0, b""), request(WRITE, 2, 16 * BLOCK - 99, bytes(100)), request(DISC, 3, 0, b"")]
-    stream, replies = b"".join(requests), [reply(1), reply(2, NO_SPACE)]
+    format_image("d.img", "--blocks", "16", "--area", "2097152")
+    requests = [request(FLUSH, 1), request(WRITE, 2, 16 * BLOCK - 99, 100) + bytes(100), request(DISC, 3)]
+    stream, replies = b"".join(requests), [reply(1), reply(2, ENOSPC)]
     ends = [len(requests[0]), len(requests[0] + requests[1])]
     for place in range(len(stream)):
         check(f"cut at {place}", (0, b"".join(replies), b""), run(["pipe", "d.img"], [stream[:place], stream[place:]]))
@@ -94,8 +75,7 @@ def main():
         os.chdir(folder)
         cut_streams()
         scripts()
-    print(f"{passed} passed, {failed} failed")
-    return failed > 0
+    return checks.finish()
 
 
 if __name__ == "__main__":

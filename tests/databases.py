@@ -16,7 +16,7 @@ import sys
 import threading
 import time
 
-from cut_chain import ENVIRONMENT, run
+from cut_chain import ENVIRONMENT, run, unmount
 
 ACCOUNTS = 1000
 
@@ -89,6 +89,19 @@ def is_alive(process):
             return file.read().rsplit(")", 1)[1].split()[0] != "Z"
     except OSError:
         return False
+
+
+def make_file_system(folder, raw, databases):
+    """Makes ext4 with the databases in a file."""
+    mount = f"{folder}/prepared"
+    run(["mkfs.ext4", "-q", "-F", "-E", "nodiscard,lazy_itable_init=0,lazy_journal_init=0", raw])
+    os.makedirs(mount)
+    run(["mount", "-o", "loop", raw, mount])
+    try:
+        for database in databases:
+            database.make(mount, f"{folder}/room")
+    finally:
+        unmount(mount)
 
 
 class Sqlite:

@@ -25,17 +25,8 @@ import subprocess
 import sys
 import tempfile
 
-TOP = os.path.dirname(os.path.dirname(os.path.abspath(__file__)))
-passed, failed = 0, 0
-
-
-def check(name, wanted, got):
-    global passed, failed
-    if wanted == got:
-        passed += 1
-    else:
-        failed += 1
-        print(f"FAILED {name}\n  wanted: {wanted}\n  got:    {got}")
+import checks
+from checks import NBDJ, TOP, check
 
 
 def read(path):
@@ -121,11 +112,11 @@ def check_first_image(program):
         check("README.md: a first served image", (0, said), (ran.returncode, ran.stdout + ran.stderr))
 
 
-def help_of(program, command):
+def help_of(command):
     """What `--help` of a command tells: the lines of its usage, what it does, the text behind the options without the example, and by
     argument and option (but for -h and -V) the text, with default and values as the man page writes them."""
-    done = subprocess.run([program, command, "--help"], capture_output=True, text=True, timeout=60)
-    about, _, rest = done.stdout.partition("\n\nUsage: ")
+    _, output, _ = checks.run(command, "--help")
+    about, _, rest = output.partition("\n\nUsage: ")
     usage = [line.strip() for line in rest.partition("\n\n")[0].splitlines()]
     rows = {}
     for tag, text in re.findall(r"^ +(?:-v, )?(--[a-z-]+(?: <\w+>)?|<\w+>)(?: {2,}|\n +)(.*)$", rest, re.M):
@@ -152,22 +143,22 @@ def man_of(page, command):
     return {"usage": usage, "about": about.strip().removesuffix("."), "note": " ".join(note.split()), "rows": rows}
 
 
-def check_man_page(program):
+def check_man_page():
     """The man page against the help of each command that the program's own help lists."""
     page = read(f"{TOP}/docs/nbdj.1").replace("\\-", "-").replace("\\(ga", "`")
-    done = subprocess.run([program, "--help"], capture_output=True, text=True, timeout=60)
-    listed = re.findall(r"^  (\w+) ", done.stdout.partition("\nCommands:\n")[2].partition("\n\n")[0], re.M)
+    _, output, _ = checks.run("--help")
+    listed = re.findall(r"^  (\w+) ", output.partition("\nCommands:\n")[2].partition("\n\n")[0], re.M)
     commands = [it for it in listed if it != "help"]
     check("the commands of the man page", commands, re.findall(r"^\.SS nbdj (\w+)$", page, re.M))
     check("there are commands", True, len(commands) > 0)
     for command in commands:
-        wanted, got = help_of(program, command), man_of(page, command)
+        wanted, got = help_of(command), man_of(page, command)
         check(f"the man page of {command}: options and arguments", sorted(wanted["rows"]), sorted(got["rows"]))
         for tag, row in wanted["rows"].items():
             check(f"the man page of {command}: {tag}", row, got["rows"].get(tag))
         for part in ("usage", "about", "note"):
             check(f"the man page of {command}: {part}", wanted[part], got[part])
-    version = subprocess.run([program, "--version"], capture_output=True, text=True, timeout=60).stdout.strip()
+    version = checks.run("--version")[1].strip()
     check("the version of the man page", [version], re.findall(r'^\.TH NBDJ 1 "\d{4}-\d\d-\d\d" "(.*?)"', page, re.M))
 
 
@@ -275,15 +266,13 @@ def main():
     check_links()
     check_columns()
     check_wrong_bodies()
-    program = os.environ.get("NBDJ")
-    if program and os.access(program, os.X_OK):
-        check_examples(os.path.abspath(program))
-        check_first_image(os.path.abspath(program))
-        check_man_page(os.path.abspath(program))
+    if os.access(NBDJ, os.X_OK):
+        check_examples(os.path.abspath(NBDJ))
+        check_first_image(os.path.abspath(NBDJ))
+        check_man_page()
     else:
-        check("the program NBDJ", "a built program", program)
-    print(f"{passed} passed, {failed} failed")
-    return 1 if failed else 0
+        check("the program NBDJ", "a built program", NBDJ)
+    return checks.finish()
 
 
 if __name__ == "__main__":

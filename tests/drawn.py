@@ -7,25 +7,18 @@ plain bytes answer them, the last of each with the whole image. Prints a line fo
 """
 import os
 import random
-import subprocess
 import sys
 import tempfile
 
-from hostile import BLOCK, DISC, FLUSH, MIB, NBDJ, READ, TRIM, WRITE, ZEROES, check, request, struct
+import checks
+from checks import BLOCK, DISC, FLUSH, FUA, MIB, NO_HOLE, READ, TRIM, WRITE, ZEROES, check, format_image, reply, request, run
 
-import hostile
-
-FUA, NO_HOLE = 1, 2
 DATA, ZERO, HOLE = 0, 2, 3
 # Of a script: the blocks of its image, the bytes of an area, the most blocks of a command, and its turns. It has 512 frames.
 SCRIPTS = [(24, 2 * MIB, 5, 1500), (700, 16 * MIB, 40, 1500)]
 MOST_WRITTEN = 400
 SESSION_BLOCKS, SESSIONS, SESSION_TURNS = 48, 6, 150
 SEEDS = 4711, 20260, 998244353
-
-
-def simple(cookie):
-    return struct.pack(">IIQ", 0x67446698, 0, cookie)
 
 
 def place_in_block(draws):
@@ -279,39 +272,35 @@ class Session:
                 # the parts of blocks stay as they are
                 start, end = -(-start // BLOCK) * BLOCK, end // BLOCK * BLOCK
             self.image[start:end] = bytes(max(end - start, 0))
-        return request(kind, self.cookie, offset, length, flags) + data, simple(self.cookie) + shown
+        return request(kind, self.cookie, offset, length, flags) + data, reply(self.cookie) + shown
 
     def talk(self):
         turns = [self.turn() for _ in range(SESSION_TURNS)]
-        turns.append((request(READ, 0, 0, len(self.image)) + request(DISC, 0, 0, 0), simple(0) + self.image))
+        turns.append((request(READ, 0, 0, len(self.image)) + request(DISC, 0, 0, 0), reply(0) + self.image))
         return b"".join(it[0] for it in turns), b"".join(it[1] for it in turns)
-
-
-def run(words, given):
-    return subprocess.run([NBDJ, *words], input=given, capture_output=True, timeout=120)
 
 
 def check_script(seed, mode, blocks, area, most, turns):
     script = Script(random.Random(seed), blocks, area, most, mode)
     for _ in range(turns):
         script.turn()
-    ran = run(["rehearse"], "".join(f"{it}\n" for it in script.lines).encode())
-    printed = ran.stdout.decode().splitlines()
+    status, output, errors = run("rehearse", given="".join(f"{it}\n" for it in script.lines), seconds=120)
+    printed = output.splitlines()
     name = f"the script of seed {seed} over {blocks} blocks {mode}".rstrip()
-    check(f"how {name} ends", (0, b"", len(script.printed)), (ran.returncode, ran.stderr, len(printed)))
+    check(f"how {name} ends", (0, "", len(script.printed)), (status, errors, len(printed)))
     differ = [place for place, (wanted, got) in enumerate(zip(script.printed, printed)) if wanted != got][:1]
     check(f"what {name} prints", [], [(place, script.printed[place], printed[place]) for place in differ])
 
 
 def check_sessions(folder, seed, *words):
     session, image = Session(random.Random(seed)), os.path.join(folder, f"{seed}.img")
-    run(["format", image, "--blocks", str(SESSION_BLOCKS), "--area", str(2 * MIB)], b"").check_returncode()
+    format_image(image, "--blocks", str(SESSION_BLOCKS), "--area", str(2 * MIB))
     for number in range(SESSIONS):
         stream, replies = session.talk()
-        ran = run(["pipe", image, *words], stream)
+        status, output, errors = run("pipe", image, *words, given=stream, seconds=120)
         name = " ".join([f"session {number} of seed {seed}", *words])
-        check(f"how {name} ends", (0, b"", len(replies)), (ran.returncode, ran.stderr, len(ran.stdout)))
-        check(f"what {name} is answered", None, next((place for place, (one, other) in enumerate(zip(replies, ran.stdout)) if one != other), None))
+        check(f"how {name} ends", (0, b"", len(replies)), (status, errors, len(output)))
+        check(f"what {name} is answered", None, next((place for place, (one, other) in enumerate(zip(replies, output)) if one != other), None))
 
 
 def main():
@@ -322,8 +311,7 @@ def main():
             check_script(seed, "ordered", *SCRIPTS[0])
             check_sessions(folder, seed)
         check_sessions(folder, SEEDS[0] + 1, "--cache", "ordered")
-    print(f"{hostile.passed} passed, {hostile.failed} failed")
-    return hostile.failed > 0
+    return checks.finish()
 
 
 if __name__ == "__main__":

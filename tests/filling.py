@@ -15,24 +15,10 @@ import sys
 import tempfile
 import threading
 
-BLOCK, BLOCKS, SEED = 4096, 2048, 17
-WRITE, DISCONNECT, FLUSH = 1, 2, 3
-NBDJ = os.environ["NBDJ"]
-passed, failed = 0, 0
+import checks
+from checks import BLOCK, DISC, FLUSH, NBDJ, WRITE, check, reply, request, run
 
-
-def check(name, wanted, got):
-    global passed, failed
-    if wanted == got:
-        passed += 1
-    else:
-        failed += 1
-        print(f"FAILED {name}\n  wanted: {wanted}\n  got:    {got}")
-
-
-def run(*words):
-    done = subprocess.run([NBDJ, *words], stdin=subprocess.DEVNULL, capture_output=True, text=True, timeout=60)
-    return f"{done.returncode}|{done.stdout}|{done.stderr}"
+BLOCKS, SEED = 2048, 17
 
 
 def bytes_of(number, offset, length):
@@ -55,13 +41,13 @@ def requests_of(writes, random_source):
         requests.append((WRITE, number, offset, bytes_of(number, offset, length)))
         if random_source.randrange(100) == 0:
             requests.append((FLUSH, number, 0, b""))
-    requests.append((DISCONNECT, writes[-1][0], 0, b""))
+    requests.append((DISC, writes[-1][0], 0, b""))
     return requests
 
 
 def text_of(requests):
     for cookie, (kind, _, offset, data) in enumerate(requests):
-        yield struct.pack(">IHHQQI", 0x25609513, 0, kind, cookie, offset, len(data)) + data
+        yield request(kind, cookie, offset, len(data)) + data
 
 
 def feed(stream, requests):
@@ -78,12 +64,11 @@ def live(image, requests, answers_wanted):
         feeder.start()
         answered = 0
         while answered < answers_wanted:
-            reply = server.stdout.read(16)
-            if len(reply) < 16:
+            answer = server.stdout.read(16)
+            if len(answer) < 16:
                 break
-            magic, error, cookie = struct.unpack(">IIQ", reply)
-            if (magic, error, cookie) != (0x67446698, 0, answered):
-                check(f"reply {answered}", (0x67446698, 0, answered), (magic, error, cookie))
+            if answer != reply(answered):
+                check(f"reply {answered}", reply(answered).hex(), answer.hex())
             answered += 1
         if answered == answers_wanted:
             server.kill()
@@ -101,7 +86,7 @@ def fill(layout, writes_wanted, lives):
     last, killed = 0, 0
     with tempfile.TemporaryDirectory() as folder:
         path = os.path.join(folder, "d.img")
-        check("format", f"0|formatted {begin + BLOCKS * BLOCK}\n|", run("format", path, "--blocks", str(BLOCKS), "--area", str(area), "--layout", str(layout)))
+        check("format", (0, f"formatted {begin + BLOCKS * BLOCK}\n", ""), run("format", path, "--blocks", str(BLOCKS), "--area", str(area), "--layout", str(layout)))
         for life in range(lives):
             count = (writes_wanted - last) // (lives - life) + 1
             writes = [(last + 1 + index, *any_range(random_source)) for index in range(count)]
@@ -117,8 +102,8 @@ def fill(layout, writes_wanted, lives):
                 killed += 1
             confirmed = max([number for kind, number, _, _ in requests[:answered] if kind == FLUSH], default=last)
             confirmed = writes[-1][0] if whole else confirmed
-            recovered = run("recover", path)
-            found = int(recovered.split()[1]) if recovered.startswith("0|commands ") else -1
+            status, recovered, _ = run("recover", path)
+            found = int(recovered.split()[1]) if status == 0 else -1
             check(f"layout {layout}, life {life}: {confirmed} to {writes[-1][0]} commands", True, confirmed <= found <= writes[-1][0])
             for number, offset, length in writes:
                 if number <= found:
@@ -134,7 +119,7 @@ def fill(layout, writes_wanted, lives):
         counts = len(written), BLOCKS - len(written)
         numbers = {"blocks": BLOCKS, "mode": 0, "base": last, "commands": last, "data": counts[0], "zero": 0, "hole": counts[1]}
         first = "" if layout == 1 else f"layout {layout}\n"
-        check("check", f"0|{first}" + "".join(f"{name} {number}\n" for name, number in numbers.items()) + "|", run("check", path))
+        check("check", (0, first + "".join(f"{name} {number}\n" for name, number in numbers.items()), ""), run("check", path))
         check("lives that were killed", True, killed >= lives // 2)
     print(f"{last} writes over layout {layout} in {lives} lives, {killed} of them killed")
 
@@ -142,8 +127,7 @@ def fill(layout, writes_wanted, lives):
 def main():
     fill(1, 70_000, 14)
     fill(2, 30_000, 6)
-    print(f"{passed} passed, {failed} failed")
-    return failed > 0
+    return checks.finish()
 
 
 if __name__ == "__main__":

@@ -26,7 +26,9 @@ import tarfile
 import tempfile
 import time
 
-TOP = os.path.dirname(os.path.dirname(os.path.abspath(__file__)))
+import checks
+from checks import TOP, check
+
 SUITE, MIRROR = "bookworm", "http://deb.debian.org/debian"
 PACKAGES = ["systemd", "systemd-sysv", "udev", "linux-image-amd64", "kmod", "iproute2", "iputils-arping", "nbd-client", "python3", "python3-libnbd"]
 # Written into the guest's disk: what answers on the port of commands, and the network that QEMU gives.
@@ -52,18 +54,8 @@ CACHE = os.environ.get("CACHE")
 # The parts of ./test that a guest runs: what the program does in the kernel of a whole machine. All of it would take hours without KVM, and
 # release.sh wants the demo to take at most five seconds.
 PARTS = ["streams.sh", "devices.sh"]
-passed, failed = 0, 0
 # What a trial tells beside its time.
 told = []
-
-
-def check(name, wanted, got):
-    global passed, failed
-    if wanted == got:
-        passed += 1
-    else:
-        failed += 1
-        print(f"FAILED {name}\n  wanted: {wanted}\n  got:    {got}", flush=True)
 
 
 def read(path):
@@ -471,8 +463,7 @@ def main():
                     with contextlib.suppress(OSError):
                         guest.cut()
     print(f"{time.monotonic() - begin:.0f} s")
-    print(f"{passed} passed, {failed} failed")
-    sys.exit(failed > 0)
+    sys.exit(checks.finish())
 
 
 main()

@@ -14,30 +14,16 @@ here=$(CDPATH='' cd "$(dirname "$0")/.." && pwd)
 server=''
 trap '[ -z "$server" ] || kill -9 $(cat server_pid) "$server" 2>/dev/null; rm -rf "$folder"' EXIT
 begin=$(date +%s)
-
-lacks=''
-[ "$(id -u)" -eq 0 ] || lacks='not root'
-for program in guestfish nbdinfo; do
-    command -v "$program" >/dev/null 2>&1 || lacks="there is no $program"
-done
-ls /boot/vmlinuz-* >/dev/null 2>&1 || lacks='there is no kernel in /boot'
-if [ -n "$lacks" ]; then
-    echo "skipped: $lacks"
-    exit 0
-fi
+need guestfish nbdinfo
+ls /boot/vmlinuz-* >/dev/null 2>&1 || skip_if 'there is no kernel in /boot'
 export LIBGUESTFS_BACKEND=direct LIBGUESTFS_MEMSIZE=512 TMPDIR="$folder"
-uri="nbd+unix:///?socket=$folder/socket"
 
 # serves OPTION..: serves d.img by nbdj-server, and keeps the number of the program itself
 serves() {
     : >heard
     NBDJ="$folder/program" "$here/packaging/nbdj-server" d.img --unix socket "$@" >heard 2>serve_errors &
     server=$!
-    tries=0
-    while ! grep -q '^listening ' heard && [ $tries -lt 400 ] && kill -0 "$server" 2>/dev/null; do
-        sleep 0.1
-        tries=$((tries + 1))
-    done
+    await_listening 40
     is 'the server listens' 'listening socket' "$(cat heard)"
 }
 printf '#!/bin/sh\necho $$ >%s/server_pid\nexec "%s" "$@"\n' "$folder" "$(realpath "$NBDJ")" >program
@@ -97,11 +83,7 @@ serves "$@"
 } >load
 : >synced
 (
-    tries=0
-    while [ "$(wc -l <synced)" -lt 20 ] && [ $tries -lt 3000 ]; do
-        sleep 0.2
-        tries=$((tries + 1))
-    done
+    wait_for 600 has_lines synced 20
     kill -9 "$(cat server_pid)"
 ) &
 killer=$!
@@ -110,7 +92,7 @@ wait $killer
 wait "$server"
 is 'the server ended by the kill' 137 "$?"
 is 'the files from before the stop' '' "$(missing_sums early_sums)"
-is 'files were synced up to the kill' yes "$([ "$(wc -l <synced)" -ge 20 ] && echo yes || wc -l <synced)"
+is 'files were synced up to the kill' yes "$(has_lines synced 20 && echo yes || wc -l <synced)"
 sed 's,^,  ./,' synced | while read -r name; do grep -F "  $name" late_sums | grep "  $name\$"; done >synced_sums
 
 serves "$@"

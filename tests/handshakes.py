@@ -7,13 +7,13 @@ Prints a line for each check that fails, and last 'N passed, M failed'.
 """
 import os
 import re
+import struct
 import subprocess
 import sys
-import tempfile
 
-import hostile
-from hostile import BLOCK, DISC, FLUSH, NBDJ, READ, STATUS, WRITE, check, request
-from requests import GREETING, answers, connected, hold, of, served, simple
+import checks
+from checks import BLOCK, DISC, FLUSH, READ, STATUS, WRITE, check, connected, format_image, listening, reply, request, run, serve
+from requests import GREETING, answers, hold, of, served
 
 MAGIC, REPLY = "49484156454f5054", "0003e889045565a9"
 ABORT, LIST, STARTTLS, INFO, GO, STRUCTURED_REPLY, LIST_CONTEXT, SET_CONTEXT = 2, 3, 5, 6, 7, 8, 9, 10
@@ -24,12 +24,12 @@ LAST = 15 * BLOCK
 
 def option(number, data=""):
     data = of(data)
-    return of(MAGIC) + hostile.struct.pack(">II", number, len(data)) + data
+    return of(MAGIC) + struct.pack(">II", number, len(data)) + data
 
 
 def told(number, kind, data=""):
     data = of(data)
-    return of(REPLY) + hostile.struct.pack(">III", number, kind, len(data)) + data
+    return of(REPLY) + struct.pack(">III", number, kind, len(data)) + data
 
 
 def acknowledged(number):
@@ -51,7 +51,7 @@ INFO_TOLD = of(told(INFO, 3, "0000 0000000000010000 016d"), told(INFO, 3, "0003 
 LISTED = of(told(LIST_CONTEXT, 4, f"00000000 {ALLOCATION}"), acknowledged(LIST_CONTEXT))
 
 # What has been agreed on: what is sent for it and answered, the transmission flags, and the replies to a READ and a BLOCK_STATUS.
-PLAIN = (b"", b"", "016d", of(simple(5), "00", simple(6, 22)))
+PLAIN = (b"", b"", "016d", of(reply(5), "00", reply(6, 22)))
 NO_STATES = "668e33ef 0001 8001 0000000000000006 00000006 00000016 0000"
 STATES = "668e33ef 0001 0005 0000000000000006 0000000c 00000001 00001000 00000003"
 CHUNK = f"668e33ef 0001 0002 0000000000000005 0000000c {LAST:016x} 00000001"
@@ -133,9 +133,9 @@ def options(folder):
 
 
 # The last block read, two bytes written over a border, a FLUSH and a DISC; the second byte of the last request isn't looked at.
-REQUESTS = request(READ, 2, LAST, 1) + request(WRITE, 3, BLOCK - 1, 2) + b"AB" + request(FLUSH, 5, 0, 0) + request(DISC, 7, 0, 0)
-SIMPLE = of(simple(2), "00", simple(3), simple(5))
-CHUNKS = of(f"668e33ef 0001 0002 0000000000000002 0000000c {LAST:016x} 00000001", simple(3), simple(5))
+REQUESTS = request(READ, 2, LAST, 1) + request(WRITE, 3, BLOCK - 1, 2) + b"AB" + request(FLUSH, 5) + request(DISC, 7)
+SIMPLE = of(reply(2), "00", reply(3), reply(5))
+CHUNKS = of(f"668e33ef 0001 0002 0000000000000002 0000000c {LAST:016x} 00000001", reply(3), reply(5))
 
 # What a client sends behind its flags, and what is written behind the greeting.
 BEGINNINGS = [
@@ -213,33 +213,25 @@ def unflushed(folder):
     with served(folder, "unflushed", 16, "--cache", "ordered") as path:
         for name, before, flags, behind in (("plain", PLAIN, "0161", SIMPLE), ("structured", STRUCTURED, "01e1", CHUNKS)):
             sent = of("00000003", before[0], option(INFO, "00000000 0000"), option(1)) + request(WRITE, 9, 0, 1, 1) + b"C" + REQUESTS
-            wanted = of(GREETING, before[1], told(INFO, 3, f"0000 0000000000010000 {flags}"), acknowledged(INFO), f"0000000000010000 {flags}", simple(9), behind)
+            wanted = of(GREETING, before[1], told(INFO, 3, f"0000 0000000000010000 {flags}"), acknowledged(INFO), f"0000000000010000 {flags}", reply(9), behind)
             check(f"unflushed: {name}", wanted.hex(" ", 4), answers(connected, path, [sent], len(wanted)).hex(" ", 4))
-
-
-def started(folder, name, *words):
-    """A server of the image of that name, and the lines that it prints behind the first."""
-    path = os.path.join(folder, f"{name}.sock")
-    server = subprocess.Popen([NBDJ, "serve", os.path.join(folder, f"{name}.img"), "--unix", path, *words], stdin=subprocess.DEVNULL, stdout=subprocess.PIPE, text=True)
-    check(f"{name}: it listens", f"listening {path}\n", server.stdout.readline())
-    return server, path
 
 
 def asked(path, name):
     """What a GO for this name is answered, behind the greeting."""
-    data = hostile.struct.pack(">I", len(name)) + name.encode() + bytes(2)
+    data = struct.pack(">I", len(name)) + name.encode() + bytes(2)
     wanted = len(GREETING) + max(len(export("016d")) + len(acknowledged(GO)), len(refused(GO, 6)))
     return answers(connected, path, [of("00000003", option(GO, data))], wanted)[len(GREETING):]
 
 
 def fresh(folder):
     """A name that differs at each start: clients of an earlier one are refused."""
-    image = os.path.join(folder, "fresh.img")
-    subprocess.run([NBDJ, "format", image, "--blocks", "16", "--area", "2097152"], check=True, stdout=subprocess.DEVNULL, timeout=60)
+    image, path = os.path.join(folder, "fresh.img"), os.path.join(folder, "fresh.sock")
+    format_image(image, "--blocks", "16", "--area", "2097152")
     names = []
     for _ in range(3):
-        server, path = started(folder, "fresh", "--export-name", "vm", "--fresh-name")
-        with server:
+        with serve(image, "--unix", path, "--export-name", "vm", "--fresh-name") as server:
+            check("fresh: it listens", path, listening(server))
             line = server.stdout.readline()
             check("fresh: the line", True, re.fullmatch(r"export vm-\d+\n", line) is not None)
             names.append(line.split()[-1])
@@ -248,21 +240,18 @@ def fresh(folder):
                 check("fresh: another name", refused(GO, 6), asked(path, other))
             server.kill()
     check("fresh: three names", 3, len(set(names)))
-    found = subprocess.run([NBDJ, "serve", image, "--unix", path, "--fresh-name"], capture_output=True, text=True, timeout=60)
-    check("fresh: without a name", 2, found.returncode)
+    check("fresh: without a name", 2, run("serve", image, "--unix", path, "--fresh-name")[0])
     for length, status in ((4_075, None), (4_076, 2)):
-        words = [NBDJ, "serve", image, "--unix", path, "--export-name", "x" * length, "--fresh-name"]
-        with subprocess.Popen(words, stdin=subprocess.DEVNULL, stdout=subprocess.PIPE, stderr=subprocess.PIPE, text=True) as server:
-            line = server.stdout.readline()
-            check(f"fresh: a name of {length} bytes", f"listening {path}\n" if status is None else "", line)
+        with serve(image, "--unix", path, "--export-name", "x" * length, "--fresh-name", stderr=subprocess.PIPE) as server:
+            check(f"fresh: a name of {length} bytes", path if status is None else "", listening(server))
             server.kill() if status is None else check("fresh: its status", status, server.wait(20))
 
 
 DATA = bytes(place % 253 for place in range(BLOCK))
 WHOLE = of("00000003", STRUCTURED[0], option(GO, "00000000 0001 0003"), request(WRITE, 0x0102030405060708, 0, BLOCK), DATA,
-           request(READ, 2, 0, BLOCK), request(FLUSH, 3, 0, 0), request(DISC, 4, 0, 0))
-WHOLE_TOLD = of(GREETING, STRUCTURED[1], GO_TOLD, simple(0x0102030405060708),
-                "668e33ef 0001 0001 0000000000000002 00001008 0000000000000000", DATA, simple(3))
+           request(READ, 2, 0, BLOCK), request(FLUSH, 3), request(DISC, 4))
+WHOLE_TOLD = of(GREETING, STRUCTURED[1], GO_TOLD, reply(0x0102030405060708),
+                "668e33ef 0001 0001 0000000000000002 00001008 0000000000000000", DATA, reply(3))
 
 
 def whole(folder):
@@ -278,13 +267,5 @@ def whole(folder):
             check(f"another byte at {place}", wanted, answers(connected, path, [bytes(broken)], len(wanted)))
 
 
-def main():
-    with tempfile.TemporaryDirectory() as folder:
-        for scenario in (options, beginnings, names, unflushed, fresh, whole):
-            hostile.guarded(scenario, folder)
-    print(f"{hostile.passed} passed, {hostile.failed} failed")
-    return hostile.failed > 0
-
-
 if __name__ == "__main__":
-    sys.exit(main())
+    sys.exit(checks.run_scenarios((options, beginnings, names, unflushed, fresh, whole)))

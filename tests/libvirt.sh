@@ -19,26 +19,11 @@ release() {
 }
 trap 'release; rm -rf "$folder"' EXIT
 begin=$(date +%s)
-lacks=''
-[ "$(id -u)" -eq 0 ] || lacks='not root'
-for program in qemu-system-x86_64 nbdcopy python3; do
-    command -v "$program" >/dev/null 2>&1 || lacks="there is no $program"
-done
-if [ -n "$lacks" ]; then
-    echo "skipped: $lacks"
-    exit 0
-fi
+need qemu-system-x86_64 nbdcopy python3
+quiet_seconds=120
 page=$here/docs/GUIDE.md
 # (libvirt's machine runs as a user of its own, which has to reach the socket)
 chmod 755 "$folder"
-
-# quiet WORD..: its status, and where that isn't 0 what it said
-quiet() {
-    timeout 120 "$@" >output 2>&1 </dev/null
-    status=$?
-    echo "$status"
-    [ $status -eq 0 ] || tail -n 3 output
-}
 
 # A boot sector that reads the second sector by the BIOS and writes it to the ninth, and a second sector of bytes that differ.
 python3 - <<'BOOT'
@@ -56,51 +41,35 @@ with open("wanted", "wb") as file:
     file.write(bytes(n * n % 251 for n in range(512)))
 BOOT
 
+# starts WORD..: serves d.img
+starts() {
+    : >heard
+    "$here/packaging/nbdj-server" d.img --workers 16 "$@" >heard 2>serve_errors &
+    server=$!
+    await_listening 20
+}
 # serves WORD..: a new image with the sectors, served
 serves() {
     rm -f d.img
     "$NBDJ" format d.img --size 16M --area 8M >/dev/null
-    : >heard
-    "$here/packaging/nbdj-server" d.img --workers 16 "$@" >heard 2>serve_errors &
-    server=$!
-    tries=0
-    until grep -q '^listening ' heard || [ $tries -eq 200 ]; do
-        sleep 0.1
-        tries=$((tries + 1))
-    done
-    at=$(sed -n 's/^listening //p' heard)
-    case $at in
-    */*) uri="nbd+unix:///?socket=$at" ;;
-    *) uri=nbd://127.0.0.1:$at ;;
-    esac
+    starts "$@"
     is "the server listens at $1" 0 "$(quiet nbdcopy --flush source "$uri")"
 }
 # ninth: the ninth sector of the export
 ninth() { timeout 60 nbdcopy "$uri" found >&2 && dd if=found bs=512 skip=8 count=1 status=none; }
+is_written() { ninth | cmp -s - wanted; }
 # written NAME: waits until the machine has written its sector
 written() {
-    tries=0
-    until ninth | cmp -s - wanted || [ $tries -eq 240 ]; do
-        sleep 0.5
-        tries=$((tries + 1))
-    done
-    is "$1: the machine writes its sector" yes "$(ninth | cmp -s - wanted && echo yes)"
+    wait_for 180 is_written
+    is "$1: the machine writes its sector" yes "$(is_written && echo yes)"
 }
 # stopped NAME: the server stores what was written, and the sector is in the image when it is opened anew
 stopped() {
     kill -TERM "$server"
     wait "$server"
     is "$1: a stop" '0|' "$?|$(cat serve_errors)"
-    : >heard
-    "$here/packaging/nbdj-server" d.img --unix "$folder/after" >heard 2>serve_errors &
-    server=$!
-    tries=0
-    until grep -q '^listening ' heard || [ $tries -eq 200 ]; do
-        sleep 0.1
-        tries=$((tries + 1))
-    done
-    uri="nbd+unix:///?socket=$folder/after"
-    is "$1: the sector is in the image" yes "$(ninth | cmp -s - wanted && echo yes)"
+    starts --unix "$folder/after"
+    is "$1: the sector is in the image" yes "$(is_written && echo yes)"
     kill -TERM "$server"
     wait "$server"
     server=''
@@ -142,11 +111,7 @@ else
     printf 'unix_sock_dir = "%s/run"\nauth_unix_rw = "none"\nauth_unix_ro = "none"\n' "$folder" >libvirtd.conf
     libvirtd --config libvirtd.conf --pid-file "$folder/run/pid" >libvirtd_output 2>&1 &
     daemon=$!
-    tries=0
-    until [ -S run/libvirt-sock ] || [ $tries -eq 300 ]; do
-        sleep 0.1
-        tries=$((tries + 1))
-    done
+    wait_for 30 test -S run/libvirt-sock
     export LIBVIRT_DEFAULT_URI="qemu+unix:///system?socket=$folder/run/libvirt-sock"
     is 'libvirtd answers' 0 "$(quiet virsh version)"
     # Debian's libvirt runs QEMU as the user libvirt-qemu, with its groups. The socket is for a group, as that of the units is.

@@ -20,7 +20,6 @@ import re
 import shlex
 import shutil
 import signal
-import socket
 import struct
 import subprocess
 import sys
@@ -29,8 +28,12 @@ import threading
 import time
 from concurrent.futures import ThreadPoolExecutor
 
-TOP = os.path.dirname(os.path.dirname(os.path.abspath(__file__)))
-NBDJ = os.environ["NBDJ"]
+import checks
+from checks import (
+    BLOCK, DISC, ENOMEM, FLUSH, HANDSHAKE, NBDJ, READ, TOP, WRITE, ZEROES, check, connected, counting, format_image, listening, preloaded, reply,
+    serve, shake, take, take_all,
+)
+
 ORACLE = shlex.split(os.environ.get("ORACLE", "")) or [NBDJ, "rehearse"]
 words = argparse.ArgumentParser(description="Refuses the program one call for memory after another.")
 words.add_argument("--built-tests", action="store_true")
@@ -44,19 +47,13 @@ SPARSE = 8
 IN_TURN, SAMPLES = (10**9, 0) if LONG else (60, 60)
 # Scripts over hundreds of blocks, which --long alone tries.
 LONG_SCRIPTS = {"area_of_half_the_bytes_is_full", "room_after_each_finish", "two_finishes_and_one_clean"}
-BLOCK, BLOCKS = 4096, 16
-READ, WRITE, DISC, FLUSH, ZEROES = 0, 1, 2, 3, 6
-passed, failed, refused = 0, 0, 0
-counting = threading.Lock()
+BLOCKS = 16
+refused = 0
 
 
-def check(name, wanted, got):
-    global passed, failed
-    if wanted == got:
-        passed += 1
-    else:
-        failed += 1
-        print(f"FAILED {name}\n  wanted: {wanted}\n  got:    {got}", flush=True)
+def refusal(call, met):
+    """The variables of a process whose call for memory of this number is refused; it then makes the file `met`."""
+    return {"REFUSE_AT": str(call), "REFUSE_MET": met, "LD_PRELOAD": "./refuse_memory.so"}
 
 
 class Run:
@@ -69,7 +66,7 @@ class Run:
         met = f"met-{next(Run.numbers)}"
         environment = dict(os.environ)
         if call is not None:
-            environment |= {"REFUSE_AT": str(call), "REFUSE_MET": met, "LD_PRELOAD": "./refuse.so"}
+            environment |= refusal(call, met)
         with subprocess.Popen(words, stdin=subprocess.PIPE, stdout=subprocess.PIPE, stderr=subprocess.PIPE, env=environment) as process:
             try:
                 self.output, errors = process.communicate(given, timeout=seconds)
@@ -265,7 +262,7 @@ def refuse_scripts():
 
 
 def request(kind, cookie, offset, data=b"", flags=0, length=None):
-    return struct.pack(">IHHQQI", 0x25609513, flags, kind, cookie, offset, len(data) if length is None else length) + data
+    return checks.request(kind, cookie, offset, len(data) if length is None else length, flags) + data
 
 
 def filled(letter):
@@ -339,7 +336,7 @@ PIPED = [
 
 
 def refuse_pipe():
-    wanted = b"".join(struct.pack(">IIQ", 0x67446698, 0, it) for it in range(1, 5))
+    wanted = b"".join(reply(it) for it in range(1, 5))
 
     def amiss(tried):
         run = tried.run
@@ -348,11 +345,11 @@ def refuse_pipe():
         # Each reply is that of the whole run, or says ENOMEM. What the FLUSH and the FUA write say is stored: one write, and two.
         stored = 0
         for at in range(0, len(run.output), 16):
-            reply = run.output[at: at + 16]
-            if reply == wanted[at: at + 16]:
+            answer = run.output[at: at + 16]
+            if answer == wanted[at: at + 16]:
                 stored = {16: 1, 32: 2}.get(at, stored)
-            elif reply != struct.pack(">IIQ", 0x67446698, 12, at // 16 + 1):
-                return f"a reply {reply.hex()}"
+            elif answer != reply(at // 16 + 1, ENOMEM):
+                return f"a reply {answer.hex()}"
         found = re.fullmatch(r"commands ([0-3])", recovered(tried.image))
         if not found or (int(found[1]) < stored and run.status != 0):
             return f"found {found and found[0]}, stored {stored}"
@@ -369,7 +366,7 @@ def group_of(number, block, byte):
 
 def fill_areas(image, layout):
     """Writes an image all of whose areas are in use, as a crash may leave it: each has one group, which fills a block."""
-    Run([NBDJ, "format", image, "--blocks", str(BLOCKS), "--area", "4194304", "--layout", str(layout)])
+    format_image(image, "--blocks", str(BLOCKS), "--area", "4194304", "--layout", str(layout))
     areas = 2 * layout
     with open(image, "r+b") as file:
         # (layout 1 counts the areas in front of the last, layout 2 all of them)
@@ -424,71 +421,48 @@ def refuse_check(name, image):
 # A server with clients.
 
 
-class Gone(Exception):
-    """The connection has ended."""
-
-
 class Client:
     """A client of a server at a Unix socket, with simple replies. It notes which answers were ENOMEM."""
 
     def __init__(self, path):
-        self.socket = socket.socket(socket.AF_UNIX)
-        self.socket.settimeout(20)
         self.refused = 0
-        self.path = path
-
-    def take(self, count):
-        found = b""
-        while len(found) < count:
-            piece = self.socket.recv(count - len(found))
-            if not piece:
-                raise Gone
-            found += piece
-        return found
-
-    def shake(self):
-        self.socket.connect(self.path)
-        go = struct.pack(">IHH", 0, 1, 3)
-        self.socket.sendall(struct.pack(">I", 3) + b"IHAVEOPT" + struct.pack(">II", 7, len(go)) + go)
-        self.take(18)
-        kind = 3
-        while kind == 3:
-            _, _, kind, length = struct.unpack(">QIII", self.take(20))
-            self.take(length)
-        if kind != 1:
-            raise ValueError(f"the handshake is answered {kind:x}")
+        self.socket = connected(path)
+        shake(self.socket)
 
     def ask(self, kind, cookie, offset, data=b"", length=0):
         """The bytes of a READ, or whether another request is answered Ok."""
         self.socket.sendall(request(kind, cookie, offset, data, length=length or len(data)))
-        magic, error, echoed = struct.unpack(">IIQ", self.take(16))
-        if (magic, echoed) != (0x67446698, cookie) or error not in (0, 12):
-            raise ValueError(f"a reply {magic:x}, {error}, {echoed}")
-        if error:
+        if not self.is_done(cookie):
             self.refused += 1
             return None
-        return self.take(length) if kind == READ else True
+        return take_all(self.socket, length) if kind == READ else True
+
+    def is_done(self, cookie):
+        """Whether the next reply is Ok, and not ENOMEM; it has to be one of them."""
+        answer = take_all(self.socket, 16)
+        if answer not in (reply(cookie), reply(cookie, ENOMEM)):
+            raise ValueError(f"a reply {answer.hex()} to request {cookie}")
+        return answer == reply(cookie)
 
     def close(self):
         self.socket.close()
 
 
 def converse(path, block):
-    """Writes a block, reads it, and flushes. How many answers were ENOMEM, 9 where the connection was lost, and whether the block is known to
+    """Writes a block, reads it, and flushes. How many answers were ENOMEM, 9 if the connection was lost, and whether the block is known to
     be stored."""
     written = flushed = False
-    with contextlib.closing(Client(path)) as client:
-        try:
-            client.shake()
+    try:
+        with contextlib.closing(Client(path)) as client:
             written = client.ask(WRITE, 1, block * BLOCK, filled(b"ABC"[block: block + 1]))
             seen = client.ask(READ, 2, block * BLOCK, length=BLOCK)
             if written and seen is not None and seen != filled(b"ABC"[block: block + 1]):
                 raise ValueError("a READ shows other bytes")
             flushed = client.ask(FLUSH, 3, 0)
             client.socket.sendall(request(DISC, 4, 0))
-        except (Gone, OSError):
-            return 9, bool(written and flushed)
-        return client.refused, bool(written and flushed)
+            return client.refused, bool(written and flushed)
+    except OSError:
+        return 9, bool(written and flushed)
 
 
 # Where each WRITE of a client begins that sends them all at once, and how many blocks it has; one is longer than a piece that is read.
@@ -496,22 +470,18 @@ SENT = [(8, 1), (9, 1), (10, 24), (40, 1), (41, 1)]
 
 
 def converse_at_once(path):
-    """Sends several WRITEs before it reads an answer. How many answers were ENOMEM, 9 where the connection was lost, and of each WRITE whether
-    it was answered Ok, or None where there was no answer."""
+    """Sends several WRITEs before it reads an answer. How many answers were ENOMEM, 9 if the connection was lost, and of each WRITE whether
+    it was answered Ok, or None if there was no answer."""
     answers = []
-    with contextlib.closing(Client(path)) as client:
-        try:
-            client.shake()
+    try:
+        with contextlib.closing(Client(path)) as client:
             client.socket.sendall(b"".join(request(WRITE, it, first * BLOCK, filled(b"E") * blocks) for it, (first, blocks) in enumerate(SENT)))
             for cookie in range(len(SENT)):
-                magic, error, echoed = struct.unpack(">IIQ", client.take(16))
-                if (magic, echoed) != (0x67446698, cookie) or error not in (0, 12):
-                    raise ValueError(f"a reply {magic:x}, {error}, {echoed}")
-                answers.append(not error)
+                answers.append(client.is_done(cookie))
             client.socket.sendall(request(DISC, 9, 0))
-        except (Gone, OSError):
-            return 9, answers + [None] * (len(SENT) - len(answers))
-        return answers.count(False), answers
+            return answers.count(False), answers
+    except OSError:
+        return 9, answers + [None] * (len(SENT) - len(answers))
 
 
 def judge_sent(answers, found):
@@ -531,33 +501,36 @@ def judge_sent(answers, found):
 GOES_ON = re.compile(r"nbdj: [^:]*: (no memory to store what was written, which is tried again|all \d+ workers have a client, and further ones wait|\d+ lines left out)")
 
 
+def was_met(image, path, met):
+    """Whether a call was refused, which the file `met` tells; the files of the server are removed."""
+    is_met = os.path.exists(met)
+    for it in (image, path, met):
+        with contextlib.suppress(FileNotFoundError):
+            os.unlink(it)
+    return is_met
+
+
 def serve_refused(call):
     """A server that is refused one call, with four clients one after another: what is amiss, and whether the call was met."""
     name = f"served-{next(Run.numbers)}"
     image, path, met = f"{name}.img", f"{name}.sock", f"{name}.met"
     shutil.copyfile("wide.img", image)
-    environment = dict(os.environ) | {"REFUSE_AT": str(call), "REFUSE_MET": met, "LD_PRELOAD": "./refuse.so"}
-    words = [NBDJ, "serve", image, "--unix", path, "--sessions", "4", "--workers", "1", "--frames", "512"]
-    with subprocess.Popen(words, stdin=subprocess.DEVNULL, stdout=subprocess.PIPE, stderr=subprocess.PIPE, env=environment) as server:
+    words = ["--unix", path, "--sessions", "4", "--workers", "1", "--frames", "512"]
+    with serve(image, *words, stderr=subprocess.PIPE, env={**os.environ, **refusal(call, met)}) as server:
         # A server that hangs is ended by a signal, which its status tells.
         limit = threading.Timer(30, server.kill)
         limit.start()
         try:
-            listening = server.stdout.readline().startswith(b"listening")
-            talks = [converse(path, 0), converse_at_once(path), converse(path, 1), converse(path, 2)] if listening else []
+            talks = [converse(path, 0), converse_at_once(path), converse(path, 1), converse(path, 2)] if listening(server) else []
             told = server.communicate()[1]
         except ValueError as error:
             server.kill()
             return f"{error}", os.path.exists(met)
         finally:
             limit.cancel()
-    tell_documents(told)
-    amiss = judge_served(server.returncode, told.decode().strip(), talks, image)
-    was_met = os.path.exists(met)
-    for it in (image, path, met):
-        with contextlib.suppress(FileNotFoundError):
-            os.unlink(it)
-    return amiss, was_met
+    tell_documents(told.encode())
+    amiss = judge_served(server.returncode, told.strip(), talks, image)
+    return amiss, was_met(image, path, met)
 
 
 def judge_served(status, errors, talks, image):
@@ -587,29 +560,18 @@ def judge_served(status, errors, talks, image):
 def talk_while_short(path):
     """Writes blocks and flushes them twice. Whether the first FLUSH was answered Ok, so the blocks are stored; an answer that doesn't come
     within 15 seconds is an error of the clock's."""
-    with contextlib.closing(socket.socket(socket.AF_UNIX)) as client:
-        client.settimeout(15)
-        try:
-            client.connect(path)
-            client.sendall(struct.pack(">I", 3) + b"IHAVEOPT" + struct.pack(">II", 7, 8) + struct.pack(">IHH", 0, 1, 3))
-            greeting = receive(client, 18 + 32 + 34 + 20)
-            if len(greeting) < 104:
+    try:
+        with connected(path, 15) as client:
+            client.sendall(HANDSHAKE)
+            if len(take(client, 104)) < 104:
                 return False
             asked = [request(WRITE, it, it * BLOCK, filled(b"S")) for it in range(4)] + [request(FLUSH, 4, 0), request(FLUSH, 5, 0)]
             client.sendall(b"".join(asked))
-            replies = receive(client, 16 * len(asked))
-        except (ConnectionError, FileNotFoundError):
-            return False
+            replies = take(client, 16 * len(asked))
+    except (ConnectionError, FileNotFoundError):
+        return False
     errors = [struct.unpack_from(">IIQ", replies, at)[1] for at in range(0, len(replies) - 15, 16)]
     return len(errors) > 4 and not any(errors[:5])
-
-
-def receive(client, count):
-    """So many bytes; fewer where the server closes."""
-    found = b""
-    while len(found) < count and (piece := client.recv(count - len(found))):
-        found += piece
-    return found
 
 
 def serve_short(call):
@@ -618,57 +580,46 @@ def serve_short(call):
     name = f"short-{next(Run.numbers)}"
     image, path, met = f"{name}.img", f"{name}.sock", f"{name}.met"
     shutil.copyfile("wide.img", image)
-    environment = dict(os.environ) | {"REFUSE_AT": str(call), "REFUSE_ON": "1", "REFUSE_MET": met, "LD_PRELOAD": "./refuse.so"}
-    words = [NBDJ, "serve", image, "--unix", path, "--workers", "3", "--frames", "512", "--until-eof"]
-    with subprocess.Popen(words, stdin=subprocess.PIPE, stdout=subprocess.PIPE, stderr=subprocess.PIPE, env=environment) as server:
+    words = ["--unix", path, "--workers", "3", "--frames", "512", "--until-eof"]
+    environment = {**os.environ, **refusal(call, met), "REFUSE_ON": "1"}
+    with serve(image, *words, stdin=subprocess.PIPE, stderr=subprocess.PIPE, env=environment) as server:
         amiss, stored = "", False
         try:
-            listening = server.stdout.readline().startswith(b"listening")
-            if listening:
+            listened = listening(server) != ""
+            if listened:
                 with ThreadPoolExecutor(3) as clients:
                     stored = any(clients.map(talk_while_short, [path] * 3))
-            errors = server.communicate(timeout=40)[1].decode().splitlines()
+            errors = server.communicate(timeout=40)[1].splitlines()
             told = [line for line in errors if not GOES_ON.fullmatch(line)]
-            if (server.returncode, told, listening) not in [(0, [], True), (1, ["nbdj: no memory (0)"], False), (1, ["nbdj: device fault (1)"], True)]:
+            if (server.returncode, told, listened) not in [(0, [], True), (1, ["nbdj: no memory (0)"], False), (1, ["nbdj: device fault (1)"], True)]:
                 amiss = f"status {server.returncode}, {errors}"
         except (subprocess.TimeoutExpired, TimeoutError) as error:
             server.kill()
             amiss = f"{error!r}"
     asked = b"".join(request(READ, it, it * BLOCK, length=BLOCK) for it in range(4)) + request(DISC, 5, 0)
     found = Run([NBDJ, "pipe", image], asked).output
-    if stored and found != b"".join(struct.pack(">IIQ", 0x67446698, 0, it) + filled(b"S") for it in range(4)):
+    if stored and found != b"".join(reply(it) + filled(b"S") for it in range(4)):
         amiss = amiss or "what was flushed isn't there"
-    was_met = os.path.exists(met)
-    for it in (image, path, met):
-        with contextlib.suppress(FileNotFoundError):
-            os.unlink(it)
-    return amiss, was_met
+    return amiss, was_met(image, path, met)
 
 
-def refuse_serve_on():
-    """From some call on all are refused, to the end: later and later ones, up to the last that a server makes."""
+def refuse_servers(name, tried, numbers, at_once):
+    """Refuses calls of servers, up to the first number of a call that is never made."""
     wrong, calls = [], 0
-    wanted = itertools.accumulate(itertools.cycle((1, 5, 9)))
-    while batch := list(itertools.islice(wanted, 12)):
-        runs = list(pool.map(serve_short, batch))
-        wrong += [f"from call {call} on: {amiss}" for call, (amiss, _) in zip(batch, runs) if amiss]
-        calls += sum(met for _, met in runs)
-        if not runs[-1][1]:
-            break
-    conclude("serve without memory from some call on", calls, wrong)
-
-
-def refuse_serve():
-    wrong, calls = [], 0
-    subprocess.run([NBDJ, "format", "wide.img", "--blocks", "64", "--area", "2097152"], check=True, stdout=subprocess.DEVNULL)
-    wanted = calls_in_turn("serve")
-    while batch := list(itertools.islice(wanted, 16)):
-        runs = list(pool.map(serve_refused, batch))
+    while batch := list(itertools.islice(numbers, at_once)):
+        runs = list(pool.map(tried, batch))
         wrong += [f"call {call}: {amiss}" for call, (amiss, _) in zip(batch, runs) if amiss]
         calls += sum(met for _, met in runs)
         if not runs[-1][1]:
             break
-    conclude("serve", calls, wrong)
+    conclude(name, calls, wrong)
+
+
+def refuse_serve():
+    """One call is refused; then all calls from some number on, up to the last that a server makes."""
+    format_image("wide.img", "--blocks", "64", "--area", "2097152")
+    refuse_servers("serve", serve_refused, calls_in_turn("serve"), 16)
+    refuse_servers("serve without memory from some call on", serve_short, itertools.accumulate(itertools.cycle((1, 5, 9))), 12)
 
 
 # Built tests.
@@ -723,9 +674,8 @@ def refuse_tests():
 
 with tempfile.TemporaryDirectory() as folder, ThreadPoolExecutor(len(os.sched_getaffinity(0))) as pool:
     os.chdir(folder)
-    source = f"{TOP}/tests/preloads/refuse_memory.c"
-    subprocess.run([os.environ.get("CC", "cc"), "-Wall", "-Werror", "-shared", "-fPIC", "-O2", "-o", "refuse.so", source, "-ldl"], check=True)
-    subprocess.run([NBDJ, "format", "fresh.img", "--blocks", str(BLOCKS), "--area", "2097152"], check=True, stdout=subprocess.DEVNULL)
+    preloaded(".", "refuse_memory")
+    format_image("fresh.img", "--blocks", str(BLOCKS), "--area", "2097152")
     refuse_scripts()
     refuse_format()
     refuse_pipe()
@@ -733,9 +683,7 @@ with tempfile.TemporaryDirectory() as folder, ThreadPoolExecutor(len(os.sched_ge
     refuse_check("check", "stored.img")
     refuse_check("check with four areas in use", "four.img")
     refuse_serve()
-    refuse_serve_on()
     if OPTIONS.built_tests or LONG:
         refuse_tests()
     print(f"{refused} runs with memory refused")
-    print(f"{passed} passed, {failed} failed")
-    sys.exit(failed > 0)
+    sys.exit(checks.finish())

@@ -19,6 +19,7 @@ import resource
 import select
 import signal
 import socket
+import struct
 import subprocess
 import sys
 import tempfile
@@ -26,21 +27,17 @@ import threading
 import time
 from concurrent.futures import ThreadPoolExecutor
 
-import hostile
-from hostile import BLOCK, DISC, FLUSH, MIB, NBDJ, READ, TRIM, WRITE, Server, block_of, check, request, take
+import checks
+from checks import (
+    BLOCK, BLOCKS, DISC, EIO, FLAGS, FLUSH, FRAMES, FUA, HANDSHAKE, LONG_HANDSHAKE, MIB, NBDJ, READ, TOP, TRIM, WRITE, ZEROES, Server, block_of, check,
+    connected, format_image, listening, preload, reply, request, run, run_scenario, serve, take,
+)
 
-EIO, SECTOR = 5, 512
-ZEROES = 6
+SECTOR = 512
 # The blocks that each of eight clients has for itself, together more than there are frames, and how often it asks for something.
 OWN_BLOCKS, OWN_REQUESTS = 160, 500
 # The blocks that each of eight clients writes round for round, and how often.
 ROUND_BLOCKS, ROUNDS = 16, 20
-FUA = 1
-TOP = os.path.dirname(os.path.dirname(os.path.abspath(__file__)))
-
-
-def reply(cookie, error=0):
-    return hostile.struct.pack(">IIQ", 0x67446698, error, cookie)
 
 
 def write(client, cookie, count, flags=0):
@@ -51,19 +48,18 @@ def write(client, cookie, count, flags=0):
 
 def recovered(server):
     """What the recovery of a server's image prints once the server has ended."""
-    return subprocess.run([NBDJ, "recover", server.image], capture_output=True, text=True, timeout=60).stdout.strip()
+    return run("recover", server.image)[1].strip()
 
 
 def killed(server):
-    server.process.kill()
-    server.process.wait(timeout=60)
+    server.kill()
     return recovered(server)
 
 
 def stored(server):
     """The bytes of the image that a server has left, read by `pipe`."""
-    asked = b"".join(request(READ, place, place * MIB, MIB) for place in range(hostile.BLOCKS * BLOCK // MIB))
-    read = subprocess.run([NBDJ, "pipe", server.image], input=asked + request(DISC, 0, 0, 0), capture_output=True, timeout=60).stdout
+    asked = b"".join(request(READ, place, place * MIB, MIB) for place in range(BLOCKS * BLOCK // MIB))
+    read = run("pipe", server.image, given=asked + request(DISC, 0))[1]
     return b"".join(read[place + 16:place + 16 + MIB] for place in range(0, len(read), MIB + 16))
 
 
@@ -80,7 +76,7 @@ def kills(folder):
     with Server(folder, "left", 2, "--flush-interval", "0") as server:
         with server.shaken() as client:
             check("three writes", True, all(write(client, cookie, MIB // 4) for cookie in (0, 1, 2)))
-            client.sendall(request(DISC, 9, 0, 0))
+            client.sendall(request(DISC, 9))
             check("the end of the session", b"", take(client, 1))
         check("a kill behind the end of a session", "commands 3", killed(server))
     with Server(folder, "cut", 2, "--flush-interval", "0") as server:
@@ -129,7 +125,7 @@ class Sectors:
 
     @staticmethod
     def bytes_of(sector, number):
-        return b"".join(hostile.struct.pack(">III", sector, number, place) for place in range(SECTOR // 12 + 1))[:SECTOR]
+        return b"".join(struct.pack(">III", sector, number, place) for place in range(SECTOR // 12 + 1))[:SECTOR]
 
     def batch(self, client, own, number, source):
         """Writes of some sectors, all on their way at once; False where the server is gone. One of 30 or so has FUA."""
@@ -152,7 +148,7 @@ class Sectors:
     def flush(self, client):
         with self.lock:
             before = list(self.answered)
-        client.sendall(request(FLUSH, 1, 0, 0))
+        client.sendall(request(FLUSH, 1))
         if take(client, 16) != reply(1):
             return False
         with self.lock:
@@ -173,7 +169,7 @@ class Sectors:
 def sectors(folder):
     """Three connections write sectors of 512 bytes for 10 seconds, neighbours in one block by different ones, until a kill. Each sector has one
     of its writes, none older than what was acknowledged; and all sectors of a connection are as after some first of its writes."""
-    count = hostile.BLOCKS * BLOCK // SECTOR
+    count = BLOCKS * BLOCK // SECTOR
     it = Sectors(count)
     # (few enough that most are written again and again, over more blocks than there are frames)
     owned = [range(index, count // 4, 3) for index in range(3)]
@@ -184,8 +180,7 @@ def sectors(folder):
             thread.start()
         time.sleep(10)
         check("sectors: the server lives", None, server.process.poll())
-        server.process.kill()
-        server.process.wait(timeout=60)
+        server.kill()
         for thread in threads:
             thread.join()
         for client in clients:
@@ -193,7 +188,7 @@ def sectors(folder):
         check("sectors: the recovery", "commands", recovered(server).split()[0])
         image = stored(server)
     check("sectors: the image that is read", count * SECTOR, len(image))
-    found = [hostile.struct.unpack(">I", image[sector * SECTOR + 4:sector * SECTOR + 8])[0] for sector in range(count)]
+    found = [struct.unpack(">I", image[sector * SECTOR + 4:sector * SECTOR + 8])[0] for sector in range(count)]
     torn = [sector for sector, number in enumerate(found)
             if image[sector * SECTOR:(sector + 1) * SECTOR] != (it.bytes_of(sector, number) if number else bytes(SECTOR))]
     check("sectors: each has the bytes of one write", [], torn[:9])
@@ -260,7 +255,7 @@ def works(server, own, source):
             if found != wanted:
                 check(f"{server.name}: request {cookie} of client {own}, kind {kind}, {length} bytes at {place}", wanted[:16].hex(), found[:16].hex() + " and other data")
                 break
-        client.sendall(request(DISC, 0, 0, 0))
+        client.sendall(request(DISC, 0))
     return bytes(plain)
 
 
@@ -270,7 +265,7 @@ def eight(folder):
     for name, made in (("eight", []), ("eight, layout 2", ["--layout", "2"])):
         image = os.path.join(folder, f"{name}.img")
         area = "4194304" if made else "2097152"
-        subprocess.run([NBDJ, "format", image, "--blocks", str(hostile.BLOCKS), "--area", area, *made], check=True, stdout=subprocess.DEVNULL, timeout=60)
+        format_image(image, "--blocks", str(BLOCKS), "--area", area, *made)
         with Server(folder, name, 8, "--sessions", "8", "--flush-interval", "0", made=True) as server:
             with ThreadPoolExecutor(8) as pool:
                 images = list(pool.map(lambda own: works(server, own, random.Random(own)), range(8)))
@@ -292,7 +287,7 @@ def is_silent(client):
 
 def slow(folder, seconds=5):
     """How a server whose device takes so many seconds for each sync is run."""
-    return {"env": {**os.environ, "SLOW_SYNC_US": str(seconds * 1000000), "LD_PRELOAD": preloaded(folder, "slow_sync")}}
+    return preload(folder, "slow_sync", SLOW_SYNC_US=str(seconds * 1000000))
 
 
 def beside(folder):
@@ -304,14 +299,14 @@ def beside(folder):
         check("a write is answered while a sync is held", True, write(other, 2, BLOCK))
         check("beside a write that waits: it waits", True, is_silent(one))
         check("beside a write that waits: it is done", reply(1), take(one, 16))
-        other.sendall(request(TRIM, 3, 0, BLOCK) + request(FLUSH, 4, 0, 0))
+        other.sendall(request(TRIM, 3, 0, BLOCK) + request(FLUSH, 4))
         check("before a flush waits: what is due", reply(3), take(other, 16))
         check("before a flush waits: it waits", True, is_silent(other))
         check("before a flush waits: it is done", reply(4), take(other, 16))
         check("commands of two clients, and a kill", "commands 3", killed(server))
     with Server(folder, "covered", 2, "--flush-interval", "0") as server, server.shaken() as one, server.shaken() as other:
         check("sixteen writes", True, all(write(one, cookie, BLOCK) for cookie in range(16)))
-        other.sendall(request(FLUSH, 77, 0, 0) + request(READ, 78, 5 * MIB, BLOCK))
+        other.sendall(request(FLUSH, 77) + request(READ, 78, 5 * MIB, BLOCK))
         check("another client's flush and read", reply(77) + reply(78) + bytes([5]) * BLOCK, take(other, 32 + BLOCK))
         check("what another client's flush covered, and a kill", "commands 16", killed(server))
 
@@ -322,7 +317,7 @@ def unflushed(folder):
         begun = time.monotonic()
         check("a write in ordered", True, write(client, 1, BLOCK))
         check("a write with FUA in ordered", True, write(client, 2, BLOCK, FUA))
-        client.sendall(request(FLUSH, 3, 0, 0) + request(READ, 4, MIB, BLOCK))
+        client.sendall(request(FLUSH, 3) + request(READ, 4, MIB, BLOCK))
         check("a flush in ordered", reply(3) + reply(4) + bytes([1]) * BLOCK, take(client, 32 + BLOCK))
         check("none of them waits for a sync", True, time.monotonic() - begun < 4)
         check("a kill behind a flush in ordered", "commands 0", killed(server))
@@ -385,7 +380,7 @@ class Prefixes:
         if found[:16] != reply(7):
             self.amiss.append(f"a READ at block {first} isn't answered")
             return
-        numbers = [hostile.struct.unpack_from(">I", found, 16 + place * BLOCK)[0] for place in range(count)]
+        numbers = [struct.unpack_from(">I", found, 16 + place * BLOCK)[0] for place in range(count)]
         if found[16:] != b"".join(block_of(number) if number else bytes(BLOCK) for number in numbers):
             self.amiss.append(f"a block from {first} on has the bytes of no write")
             return
@@ -407,7 +402,7 @@ class Prefixes:
 def shown(folder):
     """While one client writes blocks, more than there are frames, two others read some of them by turns: what the one is shown the other one
     is shown too."""
-    it, source = Prefixes(hostile.FRAMES * 2), random.Random(7)
+    it, source = Prefixes(FRAMES * 2), random.Random(7)
     with Server(folder, "shown", 3) as server, server.shaken() as writer, server.shaken() as one, server.shaken() as other:
         end = time.monotonic() + 4
         writes = threading.Thread(target=it.write, args=(writer, random.Random(8), end))
@@ -429,7 +424,7 @@ def asked_to_end(folder):
         with Server(folder, name, 2, "--until-eof", "--flush-interval", "0", stdin=subprocess.PIPE) as server, server.shaken() as client:
             check(f"{name}: a write", True, write(client, 1, MIB // 4))
             if flushes:
-                client.sendall(request(FLUSH, 2, 0, 0))
+                client.sendall(request(FLUSH, 2))
                 check(f"{name}: a flush", reply(2), take(client, 16))
             server.process.stdin.write("not looked at\n")
             server.process.stdin.flush()
@@ -454,8 +449,8 @@ def asked_to_end(folder):
         check("an empty input", (0, ""), ended(server))
     image = os.path.join(folder, "empty-end.img")
     path = os.path.join(folder, "end.sock")
-    done = subprocess.run([NBDJ, "serve", image, "--unix", path, "--until-eof"], stdin=subprocess.DEVNULL, capture_output=True, text=True, timeout=20)
-    check("an empty input at a Unix socket", (0, f"listening {path}\n", "", False), (done.returncode, done.stdout, done.stderr, os.path.exists(path)))
+    done = run("serve", image, "--unix", path, "--until-eof", seconds=20)
+    check("an empty input at a Unix socket", (0, f"listening {path}\n", "", False), (*done, os.path.exists(path)))
 
 
 def goes_on_in(client, blocks, answered):
@@ -503,7 +498,7 @@ def managed(folder):
             for client in clients:
                 client.close()
             image = stored(server)
-            found = {block: hostile.struct.unpack_from(">I", image, block * BLOCK)[0] for block in answered}
+            found = {block: struct.unpack_from(">I", image, block * BLOCK)[0] for block in answered}
             check(f"{name}: what was answered is stored", [], [block for block in answered if found[block] < answered[block]][:9])
             check(f"{name}: there were writes", True, len(answered) > 9 or len(answered))
     with Server(folder, "killed", 4, "--flush-interval", "0", **settings) as server, server.shaken() as client:
@@ -562,7 +557,7 @@ def failing(folder):
     """A device that takes no more: what waits is answered EIO, and the server ends, or stays where it is to."""
     with Server(folder, "failing", 3, **limited()) as server, server.shaken() as other, server.shaken() as client:
         check("failing: a write", True, write(client, 1, BLOCK))
-        client.sendall(request(FLUSH, 2, 0, 0))
+        client.sendall(request(FLUSH, 2))
         check("failing: a flush", reply(2, EIO), take(client, 16))
         check("failing: its session ends", b"", take(client, 1))
         check("failing: another session ends", b"", take(other, 1))
@@ -576,20 +571,16 @@ def failing(folder):
         client.sendall(request(WRITE, 4, 0, BLOCK, FUA) + bytes(BLOCK))
         check("staying: a write with FUA", reply(4, EIO), take(client, 16))
         for cookie in (2, 3):
-            client.sendall(request(FLUSH, cookie, 0, 0))
+            client.sendall(request(FLUSH, cookie))
             check("staying: a flush", reply(cookie, EIO), take(client, 16))
         # The order is stopped: nothing more is taken, though nobody asks for it to be stored.
         client.sendall(request(WRITE, 5, 0, BLOCK) + bytes(BLOCK))
         check("staying: a write", reply(5, EIO), take(client, 16))
         check("staying: it lives", None, server.process.poll())
         # (a thread of its own writes the line)
-        late = threading.Timer(20, server.process.kill)
-        late.start()
-        told = server.process.stderr.readline().splitlines()
-        late.cancel()
-        server.process.kill()
-        server.process.wait(timeout=60)
-        told += server.process.stderr.read().splitlines()
+        told = server.told(1)
+        server.kill()
+        told = "".join([*told, server.process.stderr.read()]).splitlines()
         check("staying: it told once", [True], [line.endswith(": File too large (os error 27)") for line in told])
 
 
@@ -621,7 +612,7 @@ def writes_rounds(client, own):
     for number in range(1, ROUNDS + 1):
         data = bytes([own * (ROUNDS + 1) + number]) * BLOCK
         try:
-            for asked in [*(request(WRITE, 1, block * BLOCK, BLOCK) + data for block in range(first, first + ROUND_BLOCKS)), request(FLUSH, 1, 0, 0)]:
+            for asked in [*(request(WRITE, 1, block * BLOCK, BLOCK) + data for block in range(first, first + ROUND_BLOCKS)), request(FLUSH, 1)]:
                 client.sendall(asked)
                 if take(client, 16) != reply(1):
                     return number - 1
@@ -661,28 +652,18 @@ def gathered(folder):
                 return number
         return times
 
-    settings = {"env": {**os.environ, "SLOW_SYNC_US": "4000", "LD_PRELOAD": preloaded(folder, "slow_sync")}}
-    with Server(folder, "gathered", 2, **settings) as server, server.shaken() as one, server.shaken() as other:
+    with Server(folder, "gathered", 2, **preload(folder, "slow_sync", SLOW_SYNC_US="4000")) as server, server.shaken() as one, server.shaken() as other:
         with ThreadPoolExecutor(2) as pool:
             together = list(pool.map(lambda it: flushes(*it), [(one, 0, 6), (other, 1, 6)]))
         check("gathered: both", [6, 6], together)
         check("gathered: one alone", 12, flushes(one, 0, 12))
 
 
-def preloaded(folder, name):
-    """The library that tests/preloads/NAME.c makes, to be preloaded."""
-    preload = os.path.join(folder, f"{name}.so")
-    if not os.path.exists(preload):
-        source = os.path.join(TOP, "tests", "preloads", f"{name}.c")
-        subprocess.run([os.environ.get("CC", "cc"), "-Wall", "-Werror", "-shared", "-fPIC", "-O2", "-o", preload, source, "-ldl"], check=True)
-    return preload
-
-
 def unreadable(folder):
     """A sector of the image that can't be read: who reads it, and who writes a part of its block, is answered EIO, and nobody else notices."""
     bad, lines = 9, []
     with Server(folder, "unreadable", 3) as server, server.shaken() as client:
-        client.sendall(request(WRITE, 1, 0, 16 * BLOCK) + bytes([1]) * 16 * BLOCK + request(DISC, 2, 0, 0))
+        client.sendall(request(WRITE, 1, 0, 16 * BLOCK) + bytes([1]) * 16 * BLOCK + request(DISC, 2))
         check("unreadable: a write", reply(1), take(client, 16))
         check("unreadable: the end of the session", b"", take(client, 1))
         # (the start after a kill copies what is stored into the image)
@@ -690,7 +671,7 @@ def unreadable(folder):
     with open(server.image, "rb") as file:
         data = file.read().rindex(bytes([1]) * 16 * BLOCK)
     place = data + bad * BLOCK + 700
-    settings = {"env": {**os.environ, "BAD_BYTE": str(place), "LD_PRELOAD": preloaded(folder, "fail_calls")}}
+    settings = preload(folder, "fail_calls", BAD_BYTE=str(place))
     with Server(folder, "unreadable", 3, made=True, **settings) as server, server.shaken() as one, server.shaken() as other:
         answers = []
         for number in range(1, 501):
@@ -706,15 +687,14 @@ def unreadable(folder):
         check("unreadable: a write of a part of the block", reply(4, EIO), take(other, 16))
         other.sendall(request(WRITE, 5, (bad + 2) * BLOCK, SECTOR) + bytes([5]) * SECTOR)
         check("unreadable: a write of a part of another block", reply(5), take(other, 16))
-        one.sendall(request(FLUSH, 501, 0, 0))
+        one.sendall(request(FLUSH, 501))
         check("unreadable: a flush of the one client", reply(501), take(one, 16))
         other.sendall(request(WRITE, 6, bad * BLOCK, BLOCK) + block_of(6))
         check("unreadable: a write of the whole block", reply(6), take(other, 16))
         other.sendall(request(READ, 7, bad * BLOCK, BLOCK))
         check("unreadable: a read of what was written", reply(7) + block_of(6), take(other, 16 + BLOCK))
         check("unreadable: it lives", None, server.process.poll())
-        server.process.kill()
-        server.process.wait(timeout=60)
+        server.kill()
         lines = server.process.stderr.read().splitlines()
     check("unreadable: it is told once", [f"nbdj: {server.image}: read of {BLOCK} bytes at {place - 700}: Input/output error (os error 5)"], lines)
     recovered(server)
@@ -730,23 +710,19 @@ def told(folder):
             check("told: a write", True, write(client, 1, 2 * BLOCK))
             client.sendall(request(READ, 2, 0, BLOCK))
             check("told: a read", reply(2), take(client, 16 + BLOCK)[:16])
-            client.sendall(request(DISC, 3, 0, 0))
+            client.sendall(request(DISC, 3))
             check("told: the end of the first session", b"", take(client, 1))
         # (of each kind there is a line a second)
         time.sleep(1.2)
         with server.connect() as client:
-            client.sendall(hostile.LONG_HANDSHAKE + request(FLUSH, 1, 0, 0))
+            client.sendall(LONG_HANDSHAKE + request(FLUSH, 1))
             check("told: a greeting", 18, len(take(client, 18)))
             client.shutdown(socket.SHUT_WR)
             while client.recv(MIB):
                 pass
         # (a thread of the server writes the lines, when it comes to that)
-        late = threading.Timer(20, server.process.kill)
-        late.start()
-        lines = [server.process.stderr.readline() for _ in range(7)]
-        late.cancel()
-        server.process.kill()
-        server.process.wait(timeout=60)
+        lines = server.told(7)
+        server.kill()
         lines = "".join([*lines, server.process.stderr.read()]).splitlines()
         lines = [re.sub(r"\d+\.\d+ s$", "T s", re.sub(r"127\.0\.0\.1:\d+", "A", line)) for line in lines]
         check("what is told", [f"nbdj: {server.image}: {line}" for line in (
@@ -769,10 +745,9 @@ def refused_when_full(folder):
                     with server.connect(5) as other:
                         check("refusing: a client too many", b"", take(other, 1))
                 check("refusing: the client that is served", True, write(client, 1, BLOCK))
-                client.sendall(request(DISC, 9, 0, 0))
+                client.sendall(request(DISC, 9))
                 check("refusing: the end of its session", b"", take(client, 1))
-        server.process.kill()
-        server.process.wait(timeout=60)
+        server.kill()
         lines = server.process.stderr.read().splitlines()
     check("refusing: what is told, once a minute", [f"nbdj: {server.image}: all 1 workers have a client, and further ones are refused"], lines)
 
@@ -800,13 +775,13 @@ def silent_handshakes(folder):
             with server.shaken(15) as client:
                 check(f"{way}: a client beside silent ones", True, write(client, 1, BLOCK))
                 check(f"{way}: one of them gave up its worker", [False, True], sorted(map(is_open, silent)))
-                client.sendall(request(DISC, 9, 0, 0))
+                client.sendall(request(DISC, 9))
                 check(f"{way}: the end of its session", b"", take(client, 1))
             server.goes_on(f"{way}: silent handshakes")
     with Server(folder, "unhurried", 1) as server, server.connect() as client:
-        client.sendall(hostile.FLAGS)
+        client.sendall(FLAGS)
         time.sleep(2.5)
-        client.sendall(hostile.HANDSHAKE[len(hostile.FLAGS):])
+        client.sendall(HANDSHAKE[len(FLAGS):])
         check("unhurried: a slow handshake for which nobody waits", 104, len(take(client, 104)))
         check("unhurried: a write", True, write(client, 1, BLOCK))
 
@@ -815,38 +790,32 @@ def converses(client):
     """Whether a connection is greeted, and a client on it is served once it has shaken hands."""
     with client:
         client.settimeout(20)
-        client.sendall(hostile.HANDSHAKE + request(FLUSH, 7, 0, 0) + request(DISC, 8, 0, 0))
+        client.sendall(HANDSHAKE + request(FLUSH, 7) + request(DISC, 8))
         found = take(client, 18 + 32 + 34 + 20 + 16 + 1)
         return (found[:8], found[104:]) == (b"NBDMAGIC", reply(7)) or found
-
-
-def unix_client(path):
-    client = socket.socket(socket.AF_UNIX)
-    client.connect(path)
-    return client
 
 
 def many_listeners(folder):
     """Several addresses and sockets at once: a line for each, clients at each, and the files gone at the end."""
     image, paths = os.path.join(folder, "many.img"), [os.path.join(folder, name) for name in ("one.sock", "two.sock")]
-    subprocess.run([NBDJ, "format", image, "--size", "16M"], check=True, stdout=subprocess.DEVNULL, timeout=60)
+    format_image(image, "--size", "16M")
     words = ["--unix", paths[0], "--listen", "127.0.0.1:0", "--unix", paths[1], "--listen", "127.0.0.1:0", "--unix-mode", "0600"]
-    with subprocess.Popen([NBDJ, "serve", image, *words, "--until-eof"], stdin=subprocess.PIPE, stdout=subprocess.PIPE, stderr=subprocess.PIPE, text=True) as server:
-        said = [server.stdout.readline().rstrip("\n").partition(" ") for _ in range(4)]
-        check("many: what is said, addresses first", (["listening"] * 4, paths), ([it[0] for it in said], [it[2] for it in said[2:]]))
+    with serve(image, *words, "--until-eof", stdin=subprocess.PIPE, stderr=subprocess.PIPE) as server:
+        said = [listening(server) for _ in range(4)]
+        check("many: what is said, addresses first", (True, paths), (all(said), said[2:]))
         for _ in range(2):
-            for port in (int(it[2]) for it in said[:2]):
+            for port in map(int, said[:2]):
                 check("many: a client of an address", True, converses(socket.create_connection(("127.0.0.1", port))))
             for path in paths:
-                check("many: a client of a socket", True, converses(unix_client(path)))
+                check("many: a client of a socket", True, converses(connected(path)))
         check("many: the modes", ["0o600", "0o600"], [oct(os.stat(path).st_mode & 0o777) for path in paths])
         server.stdin.close()
         check("many: the end", (0, ""), (server.wait(timeout=20), server.stderr.read()))
         check("many: the files are gone", [False, False], [os.path.exists(path) for path in paths])
     words = ["--listen", "127.0.0.1:0", "--unix", paths[0], "--unix", os.path.join(folder, "none", "three.sock")]
-    done = subprocess.run([NBDJ, "serve", image, *words], stdin=subprocess.DEVNULL, capture_output=True, text=True, timeout=20)
-    check("many: one that can't be made", (1, "", [f"nbdj: {words[-1]}: No such file or directory (os error 2)", "nbdj: stream fault (21)"], False),
-          (done.returncode, done.stdout, done.stderr.splitlines(), os.path.exists(paths[0])))
+    done = run("serve", image, *words, seconds=20)
+    check("many: one that can't be made", (1, "", f"nbdj: {words[-1]}: No such file or directory (os error 2)\nnbdj: stream fault (21)\n", False),
+          (*done, os.path.exists(paths[0])))
 
 
 def start_with(sockets, *words, program=(NBDJ, "serve"), environment=None):
@@ -865,7 +834,7 @@ def start_with(sockets, *words, program=(NBDJ, "serve"), environment=None):
 def activated(folder):
     """Sockets that the server is started with: clients that come early are served, and so are those that come while it starts anew."""
     image, path = os.path.join(folder, "activated.img"), os.path.join(folder, "activated.sock")
-    subprocess.run([NBDJ, "format", image, "--size", "16M"], check=True, stdout=subprocess.DEVNULL, timeout=60)
+    format_image(image, "--size", "16M")
     with socket.create_server(("127.0.0.1", 0)) as tcp, socket.socket(socket.AF_UNIX) as unix:
         unix.bind(path)
         unix.listen()
@@ -873,11 +842,11 @@ def activated(folder):
         # (systemd's own sockets don't block)
         tcp.setblocking(False)
         for turn in range(2):
-            early = [socket.create_connection(("127.0.0.1", port)), unix_client(path)]
+            early = [socket.create_connection(("127.0.0.1", port)), connected(path)]
             with start_with([tcp, unix], image, "--until-eof") as server:
                 check(f"activated {turn}: what is said", [f"listening {port}\n", f"listening {path}\n"], [server.stdout.readline() for _ in range(2)])
                 check(f"activated {turn}: early clients", [True, True], [converses(client) for client in early])
-                check(f"activated {turn}: later clients", [True, True], [converses(socket.create_connection(("127.0.0.1", port))), converses(unix_client(path))])
+                check(f"activated {turn}: later clients", [True, True], [converses(socket.create_connection(("127.0.0.1", port))), converses(connected(path))])
                 server.stdin.close()
                 check(f"activated {turn}: the end", (0, ""), (server.wait(timeout=20), server.stderr.read()))
             check(f"activated {turn}: the socket's file stays", True, os.path.exists(path))
@@ -891,9 +860,8 @@ def activated(folder):
                 said = server.communicate(timeout=20)
                 check(f"activated: {words[0]} is refused", (2, "", "error: --listen and --unix can't be used with the sockets of LISTEN_FDS"),
                       (server.returncode, said[0], said[1].splitlines()[0]))
-        environment = {**os.environ, "LISTEN_PID": "1", "LISTEN_FDS": "1"}
-        done = subprocess.run([NBDJ, "serve", image], env=environment, stdin=subprocess.DEVNULL, capture_output=True, text=True, timeout=20)
-        check("activated: sockets for another process", (2, "error: one of --listen <ADDR> and --unix <SOCKET> is wanted"), (done.returncode, done.stderr.splitlines()[0]))
+        status, _, errors = run("serve", image, env={**os.environ, "LISTEN_PID": "1", "LISTEN_FDS": "1"}, seconds=20)
+        check("activated: sockets for another process", (2, "error: one of --listen <ADDR> and --unix <SOCKET> is wanted"), (status, errors.splitlines()[0]))
     with open(image, "rb") as file, start_with([file], image) as server:
         said = server.communicate(timeout=20)
         check("activated: a descriptor that is no socket", (1, ["nbdj: LISTEN_FDS: Socket operation on non-socket (os error 88)", "nbdj: stream fault (21)"]),
@@ -905,13 +873,10 @@ def crowded(folder):
     few = {"preexec_fn": lambda: resource.setrlimit(resource.RLIMIT_NOFILE, (9, 9)), "restore_signals": False}
     with Server(folder, "crowded", 8, **few) as server:
         clients = [server.connect() for _ in range(8)]
-        late = threading.Timer(20, server.process.kill)
-        late.start()
-        line = server.process.stderr.readline()
-        late.cancel()
+        lines = server.told(1)
         for client in clients:
             client.close()
-        check("crowded: what is told", f"nbdj: {server.image}: a client can't be accepted: Too many open files (os error 24)\n", line)
+        check("crowded: what is told", [f"nbdj: {server.image}: a client can't be accepted: Too many open files (os error 24)\n"], lines)
         server.goes_on("behind a crowd")
 
 
@@ -934,15 +899,15 @@ def unheard(folder):
         for _ in range(3):
             with server.shaken(5) as client:
                 check("unheard: a write", True, write(client, 1, 2 * BLOCK))
-                client.sendall(request(FLUSH, 2, 0, 0))
+                client.sendall(request(FLUSH, 2))
                 check("unheard: a flush", reply(2), take(client, 16))
-                client.sendall(request(DISC, 3, 0, 0))
+                client.sendall(request(DISC, 3))
                 check("unheard: the end of the session", b"", take(client, 1))
         server.process.stdin.close()
         check("unheard: the end", 0, server.process.wait(timeout=20))
     with Server(folder, "unheard fault", 2, stderr=full, **limited()) as server, server.shaken(5) as client:
         check("unheard fault: a write", True, write(client, 1, BLOCK))
-        client.sendall(request(FLUSH, 2, 0, 0))
+        client.sendall(request(FLUSH, 2))
         check("unheard fault: a flush", reply(2, EIO), take(client, 16))
         check("unheard fault: the end of the session", b"", take(client, 1))
         check("unheard fault: the end", 1, server.process.wait(timeout=20))
@@ -955,7 +920,7 @@ def copied(folder):
     with Server(folder, "copied", 1, "--verbose") as server:
         with server.shaken() as client:
             check("copied: a write", True, write(client, 0, MIB // 2))
-            client.sendall(request(FLUSH, 9, 0, 0))
+            client.sendall(request(FLUSH, 9))
             check("copied: a flush", reply(9), take(client, 16))
             late = threading.Timer(20, server.process.kill)
             late.start()
@@ -969,11 +934,10 @@ def long_opening(folder):
     with Server(folder, "long", 1, "--flush-interval", "0") as server, server.shaken() as client:
         # Less than a quarter of the frames, so no checkpoint begins; copied in 13 pieces of 32 KiB.
         check("long: a write", True, write(client, 1, 100 * BLOCK))
-        client.sendall(request(FLUSH, 9, 0, 0))
+        client.sendall(request(FLUSH, 9))
         check("long: a flush", reply(9), take(client, 16))
-        server.process.kill()
-        server.process.wait(timeout=20)
-    slowly = {**os.environ, "SLOW_WRITE_US": "500000", "LD_PRELOAD": preloaded(folder, "slow_sync")}
+        server.kill()
+    slowly = preload(folder, "slow_sync", SLOW_WRITE_US="500000")
     with open(server.image, "rb") as file:
         image = file.read()
 
@@ -984,12 +948,12 @@ def long_opening(folder):
 
     found = recover(stderr=subprocess.PIPE)
     check("long: a short one", ("commands 1\n", ""), (found.stdout, found.stderr))
-    found = recover(stderr=subprocess.PIPE, env=slowly)
+    found = recover(stderr=subprocess.PIPE, **slowly)
     check("long: the commands", "commands 1\n", found.stdout)
     check("long: a line", ["nbdj: 0 of at most N MiB copied, 0 MiB/s"], [re.sub(r"most [12] MiB", "most N MiB", it) for it in found.stderr.splitlines()])
     reader, terminal = pty.openpty()
     with contextlib.closing(open(reader, "rb", buffering=0)) as shown:
-        check("long: on a terminal", "commands 1\n", recover(stderr=terminal, env=slowly).stdout)
+        check("long: on a terminal", "commands 1\n", recover(stderr=terminal, **slowly).stdout)
         os.close(terminal)
         told = b""
         with contextlib.suppress(OSError):
@@ -1004,7 +968,7 @@ def long_opening(folder):
 def put_and_flush(server, client, cookie):
     """A block that a FLUSH confirms, at MIB times the cookie."""
     check(f"{server.name}: a write", True, write(client, cookie, BLOCK))
-    client.sendall(request(FLUSH, cookie, 0, 0))
+    client.sendall(request(FLUSH, cookie))
     check(f"{server.name}: a flush", reply(cookie), take(client, 16))
 
 
@@ -1020,8 +984,8 @@ def waiting(folder):
         said = f"nbdj: {server.image}: another process has locked it; waiting for it\n"
         put_and_flush(server, client, 1)
         for command in (["recover", server.image], ["upgrade", server.image], ["serve", server.image, "--listen", "127.0.0.1:0"]):
-            ran = subprocess.run([NBDJ, *command], capture_output=True, text=True, timeout=60)
-            refused.append((ran.returncode, ran.stdout, ran.stderr.splitlines()[-1:]))
+            status, output, errors = run(*command)
+            refused.append((status, output, errors.splitlines()[-1:]))
         check("locked: without --wait-lock", [(4, "", [f"nbdj: {server.image} is in use"])] * 3, refused)
         asked = while_locked(server.image, "serve", "--listen", "127.0.0.1:0", "--until-eof", stdin=subprocess.PIPE)
         waits = while_locked(server.image, "recover")
@@ -1037,14 +1001,13 @@ def waiting(folder):
         waits = while_locked(server.image, "serve", "--listen", "127.0.0.1:0")
         check("locked: what a server says", said, waits.stderr.readline())
         server.process.kill()
-        check("locked: it serves then", "listening", waits.stdout.readline().split()[0])
+        check("locked: it serves then", True, listening(waits) != "")
         upgrades = while_locked(server.image, "upgrade")
         check("locked: what an upgrade says", said, upgrades.stderr.readline())
         waits.kill()
         waits.communicate(timeout=20)
         check("locked: it upgrades then", ("area too small (22)", 1), (upgrades.communicate(timeout=20)[1].strip().removeprefix("nbdj: "), upgrades.returncode))
-    missing = subprocess.run([NBDJ, "recover", os.path.join(folder, "nothing.img"), "--wait-lock"], capture_output=True, timeout=20)
-    check("locked: nobody has a file that isn't there", 1, missing.returncode)
+    check("locked: nobody has a file that isn't there", 1, run("recover", os.path.join(folder, "nothing.img"), "--wait-lock", seconds=20)[0])
 
 
 @contextlib.contextmanager
@@ -1056,8 +1019,7 @@ def hampered(folder, name, *words, made=False, **settings):
             pass
 
     places = {"STUCK": os.path.join(folder, f"{name}.stuck"), "LOST": os.path.join(folder, f"{name}.lost")}
-    environment = {**os.environ, **places, "LD_PRELOAD": preloaded(folder, "stuck_calls")}
-    with Server(folder, name, 2, *words, made=made, env=environment, **settings) as server:
+    with Server(folder, name, 2, *words, made=made, **preload(folder, "stuck_calls", **places), **settings) as server:
         yield server, make
     for place in places.values():
         if os.path.exists(place):
@@ -1078,7 +1040,7 @@ def late(folder):
         check("late: a write that isn't flushed", True, write(client, 2, BLOCK))
         make("stuck")
         before, begun = bytes_at(server.image), time.monotonic()
-        client.sendall(request(FLUSH, 3, 0, 0))
+        client.sendall(request(FLUSH, 3))
         check("late: the flush has no answer", b"", take(client, 16))
         check("late: another session ends", b"", take(other, 1))
         status, errors = ended(server)
@@ -1093,27 +1055,21 @@ def late(folder):
         check("late: a read has no answer", b"", take(client, 16))
         check("late: the end by a read", (1, "\n".join(told) + "\n"), ended(server))
     # An opening, and a standard error that nobody reads and that takes nothing more.
-    output, input_end = os.pipe()
-    os.set_blocking(input_end, False)
-    with contextlib.suppress(BlockingIOError):
-        while os.write(input_end, bytes(4096)):
-            pass
-    os.set_blocking(input_end, True)
+    silent, full = full_pipe()
     stuck = os.path.join(folder, "late.stuck")
     with open(stuck, "wb"):
         pass
-    environment = {**os.environ, "STUCK": stuck, "LD_PRELOAD": preloaded(folder, "stuck_calls")}
-    opening = subprocess.Popen([NBDJ, "serve", server.image, "--listen", "127.0.0.1:0", *limit], stdout=subprocess.PIPE, stderr=input_end, env=environment)
+    opening = serve(server.image, "--listen", "127.0.0.1:0", *limit, stderr=full, **preload(folder, "stuck_calls", STUCK=stuck))
     try:
-        check("late: an opening", (b"", 1), (opening.communicate(timeout=20)[0], opening.returncode))
+        check("late: an opening", ("", 1), (opening.communicate(timeout=20)[0], opening.returncode))
     finally:
         opening.kill()
         opening.wait()
         os.remove(stuck)
-        os.close(output)
-        os.close(input_end)
+        os.close(silent)
+        os.close(full)
     # Slow calls that are no longer than they may be.
-    settings = {"env": {**os.environ, "SLOW_SYNC_US": "50000", "LD_PRELOAD": preloaded(folder, "slow_sync")}}
+    settings = preload(folder, "slow_sync", SLOW_SYNC_US="50000")
     with Server(folder, "slow and in time", 1, "--device-timeout", "10", "--lock-check", "0.01", **settings) as server, server.shaken() as client:
         for cookie in range(1, 6):
             put_and_flush(server, client, cookie)
@@ -1138,7 +1094,7 @@ def shut_out(folder):
         make("lost")
         errors = server.process.stderr.readline()
         check("shut out and staying: what is told", f"nbdj: {server.image}: lock check: File descriptor in bad state (os error 77)\n", errors)
-        for asked in (request(READ, 2, MIB, BLOCK), request(WRITE, 2, 0, BLOCK) + bytes(BLOCK), request(FLUSH, 2, 0, 0)):
+        for asked in (request(READ, 2, MIB, BLOCK), request(WRITE, 2, 0, BLOCK) + bytes(BLOCK), request(FLUSH, 2)):
             client.sendall(asked)
             check("shut out and staying: it answers from memory no more", reply(2, EIO), take(client, 16))
         check("shut out and staying: it lives", None, server.process.poll())
@@ -1148,7 +1104,7 @@ def shut_out(folder):
         time.sleep(0.5)
         put_and_flush(server, client, 2)
     # The syncs of the checks are the only ones of a server that is idle.
-    settings = {"env": {**os.environ, "FAIL_CALL": "fdatasync 30", "LD_PRELOAD": preloaded(folder, "fail_calls")}}
+    settings = preload(folder, "fail_calls", FAIL_CALL="fdatasync 30")
     with Server(folder, "unsynced", 1, "--lock-check", "0.02", **settings) as server:
         wanted = [f"nbdj: {server.image}: lock check: Input/output error (os error 5)", "nbdj: device fault (1)"]
         status, errors = ended(server)
@@ -1166,11 +1122,8 @@ def main():
         for scenario in scenarios:
             if sys.argv[1:] and scenario.__name__ not in sys.argv[1:]:
                 continue
-            begun = time.monotonic()
-            hostile.guarded(scenario, folder)
-            print(f"{scenario.__name__}: {time.monotonic() - begun:.1f} s", flush=True)
-    print(f"{hostile.passed} passed, {hostile.failed} failed")
-    return hostile.failed > 0
+            run_scenario(scenario, folder)
+    return checks.finish()
 
 
 if __name__ == "__main__":

@@ -19,10 +19,10 @@ import sys
 import tempfile
 import time
 
-import hostile
+import checks
+from checks import NBDJ, check, format_image
 from cut_chain import ENVIRONMENT, Chain, CutDisk, awaited, drawn_from, isolate, run, unmount
-from databases import MariaDb, Postgres, Sqlite
-from hostile import NBDJ, check
+from databases import MariaDb, Postgres, Sqlite, make_file_system
 
 SIZE = 384 << 20
 DATABASES = [it for it in (Sqlite("wal", "wal"), Sqlite("delete", "delete"), Postgres(), MariaDb()) if it.is_there]
@@ -31,17 +31,10 @@ NEEDED = ("nbdkit", "nbdfuse", "nbdcopy", "mkfs.ext4", "e2fsck", "losetup", "uns
 
 def prepared(folder):
     """A file system with the databases, as a file."""
-    raw, mount = f"{folder}/prepared.raw", f"{folder}/prepared"
+    raw = f"{folder}/prepared.raw"
     with open(raw, "wb") as file:
         file.truncate(SIZE)
-    run(["mkfs.ext4", "-q", "-F", "-E", "nodiscard,lazy_itable_init=0,lazy_journal_init=0", raw])
-    os.makedirs(mount)
-    run(["mount", "-o", "loop", raw, mount])
-    try:
-        for database in DATABASES:
-            database.make(mount, f"{folder}/room")
-    finally:
-        unmount(mount)
+    make_file_system(folder, raw, DATABASES)
     return raw
 
 
@@ -70,7 +63,7 @@ class Nbdj:
 
     def made(self, folder, raw):
         image = f"{folder}/made.img"
-        run([NBDJ, "format", image, "--blocks", str(SIZE // 4096), "--area", str(16 << 20)])
+        format_image(image, "--blocks", str(SIZE // 4096), "--area", str(16 << 20))
         copied(folder, image, raw, True)
         return image
 
@@ -185,8 +178,7 @@ def main():
     finally:
         if not asked.keep:
             shutil.rmtree(folder, ignore_errors=True)
-    print(f"{hostile.passed} passed, {hostile.failed} failed")
-    return hostile.failed > 0
+    return checks.finish()
 
 
 if __name__ == "__main__":

@@ -152,16 +152,13 @@ serves() {
     : >errors
     timeout 20 "$NBDJ" serve "$@" >printed 2>errors </dev/null &
     serving=$!
-    tries=0
-    until [ -s printed ] || [ -s errors ] || [ "$tries" -eq 200 ]; do
-        sleep 0.05
-        tries=$((tries + 1))
-    done
+    wait_for 10 has_said
     [ -s errors ] || kill "$serving"
     wait "$serving" 2>/dev/null
     is "$name" "$wanted" "$?|$(cat printed)|$(tail -n 1 errors)"
     told
 }
+has_said() { [ -s printed ] || [ -s errors ]; }
 example=$("$NBDJ" serve --help | sed -n 's/^Example: nbdj serve //p')
 serves 'the example of serve' 143 "listening ${example##*:}" '' $example
 example=$("$NBDJ" --help | sed -n 's/^Example: //p')

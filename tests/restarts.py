@@ -10,8 +10,6 @@ for each check that fails, and last 'N passed, M failed'.
 import contextlib
 import os
 import random
-import signal
-import socket
 import struct
 import subprocess
 import sys
@@ -20,59 +18,32 @@ import threading
 import time
 from concurrent.futures import ThreadPoolExecutor
 
-BLOCK, BLOCKS = 4096, 256
+import checks
+from checks import BLOCK, FLUSH, NO_HOLE, READ, TRIM, WRITE, ZEROES, check, connected, format_image, listening, reply, request, serve, shake, take_all
+
+BLOCKS = 256
 # The bytes of `--area` by the layout, in both of which each area of the journal has 2 MiB.
 AREAS = {1: 2097152, 2: 4194304}
 RESTARTS, SECONDS = 400, 90
 SEED = int(os.environ.get("RESTARTS_SEED", "41"))
-READ, WRITE, FLUSH, TRIM, ZEROES = 0, 1, 3, 4, 6
-NO_HOLE = 2
-NBDJ = os.environ["NBDJ"]
-passed, failed = 0, 0
-
-
-def check(name, wanted, got):
-    global passed, failed
-    if wanted == got:
-        passed += 1
-    else:
-        failed += 1
-        print(f"FAILED {name}\n  wanted: {wanted}\n  got:    {got}", flush=True)
 
 
 class Client:
     """A client at a Unix socket, with simple replies."""
 
     def __init__(self, path):
-        self.socket = socket.socket(socket.AF_UNIX)
-        self.socket.settimeout(20)
-        self.socket.connect(path)
+        self.socket = connected(path)
+        shake(self.socket)
         self.cookie = 0
-        go = struct.pack(">IHH", 0, 1, 3)
-        self.socket.sendall(struct.pack(">I", 3) + b"IHAVEOPT" + struct.pack(">II", 7, len(go)) + go)
-        self.take(18)
-        kind = 0
-        while kind != 1:
-            _, _, kind, length = struct.unpack(">QIII", self.take(20))
-            self.take(length)
-
-    def take(self, count):
-        found = bytearray()
-        while len(found) < count:
-            piece = self.socket.recv(count - len(found))
-            if not piece:
-                raise ConnectionError("the server has gone")
-            found += piece
-        return bytes(found)
 
     def ask(self, kind, offset=0, length=0, data=b"", flags=0):
         """The data of a READ, or nothing; another reply than Ok ends the run."""
         self.cookie += 1
-        self.socket.sendall(struct.pack(">IHHQQI", 0x25609513, flags, kind, self.cookie, offset, length) + data)
-        magic, error, cookie = struct.unpack(">IIQ", self.take(16))
-        if (magic, error, cookie) != (0x67446698, 0, self.cookie):
-            raise ValueError(f"a reply {magic:x}, {error}, {cookie} to request {self.cookie}")
-        return self.take(length) if kind == READ else b""
+        self.socket.sendall(request(kind, self.cookie, offset, length, flags) + data)
+        answer = take_all(self.socket, 16)
+        if answer != reply(self.cookie):
+            raise ValueError(f"a reply {answer.hex()} to request {self.cookie}")
+        return take_all(self.socket, length) if kind == READ else b""
 
     def image(self):
         return self.ask(READ, 0, BLOCKS * BLOCK)
@@ -135,15 +106,13 @@ class Restarts:
         self.server = None
 
     def start(self):
-        words = [NBDJ, "serve", self.image, "--unix", self.path, "--frames", "512", "--flush-interval", "0"]
-        self.server = subprocess.Popen(words, stdin=subprocess.DEVNULL, stdout=subprocess.PIPE, stderr=subprocess.PIPE)
+        self.server = serve(self.image, "--unix", self.path, "--frames", "512", "--flush-interval", "0", stderr=subprocess.PIPE)
 
     def listens(self):
-        said = self.server.stdout.readline()
-        return said.startswith(b"listening") or self.server.stderr.read().decode(errors="replace")
+        return listening(self.server) == self.path or self.server.stderr.read()
 
     def kill(self):
-        self.server.send_signal(signal.SIGKILL)
+        self.server.kill()
         self.server.communicate()
         with open(self.image, "rb") as file:
             self.slots = self.slots[-4:] + [[file.read(40).hex(), (file.seek(BLOCK), file.read(40).hex())[1]]]
@@ -161,8 +130,7 @@ def differing(one, other):
 def run(folder, layout):
     source = random.Random(SEED * layout)
     restarts = Restarts(os.path.join(folder, f"{layout}.img"), os.path.join(folder, f"socket{layout}"))
-    words = [NBDJ, "format", restarts.image, "--blocks", str(BLOCKS), "--area", str(AREAS[layout]), "--layout", str(layout)]
-    subprocess.run(words, check=True, stdout=subprocess.DEVNULL)
+    format_image(restarts.image, "--blocks", str(BLOCKS), "--area", str(AREAS[layout]), "--layout", str(layout))
     known, load = bytes(BLOCKS * BLOCK), Load()
     ways = dict.fromkeys(("opening", "idle", "load"), 0)
     began = time.monotonic()
@@ -205,9 +173,12 @@ def run(folder, layout):
     return ways
 
 
-with tempfile.TemporaryDirectory() as temporary:
-    with ThreadPoolExecutor(len(AREAS)) as both:
-        for layout, ways in zip(AREAS, both.map(lambda layout: run(temporary, layout), AREAS)):
+def main():
+    with tempfile.TemporaryDirectory() as folder, ThreadPoolExecutor(len(AREAS)) as both:
+        for layout, ways in zip(AREAS, both.map(lambda layout: run(folder, layout), AREAS)):
             print(f"kills of layout {layout}:", ", ".join(f"{count} {way}" for way, count in ways.items()), flush=True)
-print(f"{passed} passed, {failed} failed")
-sys.exit(failed > 0)
+    return checks.finish()
+
+
+if __name__ == "__main__":
+    sys.exit(main())

@@ -67,7 +67,7 @@ wait $two
 is 'the end of two' "0|" "$?|$(has two)"
 
 # A device that hangs.
-${CC:-cc} -Wall -Werror -shared -fPIC -O2 -o stuck_calls.so "$here/tests/preloads/stuck_calls.c" -ldl || exit 1
+preload stuck_calls
 STUCK=$folder/stuck LD_PRELOAD=$folder/stuck_calls.so "$standby" d.img $first one --listen 127.0.0.1:0 --lock-check 0.2 --device-timeout 0.5 >one.log 2>&1 &
 one=$!
 is 'one serves' yes "$(seen one.log "nbdj-standby: takes $first")"

@@ -17,17 +17,18 @@ import socket
 import stat
 import subprocess
 import sys
-import tempfile
 import threading
 import time
 
-import hostile
-from hostile import BLOCK, DISC, FLUSH, FRAMES, MIB, NBDJ, READ, TRIM, WRITE, ZEROES, Server, check, request, take
-from operating import EIO, limited, reply
+import checks
+from checks import (
+    BLOCK, BLOCKS, DISC, EINVAL, EIO, FLUSH, FRAMES, MIB, NBDJ, READ, TOP, TRIM, WRITE, ZEROES, Server, check, connected, format_image, reply, request,
+    take,
+)
+from hostile import SEED
+from operating import limited
 from operating import slow as slow_device
 
-EINVAL = 22
-TOP = os.path.dirname(os.path.dirname(os.path.abspath(__file__)))
 ROUNDS = 10_000
 
 
@@ -37,9 +38,7 @@ def ask(path, method="GET", target="/status", version="HTTP/1.1", seconds=20):
 
 
 def answered(path, sent, seconds=20):
-    with socket.socket(socket.AF_UNIX) as client:
-        client.settimeout(seconds)
-        client.connect(path)
+    with connected(path, seconds) as client:
         with contextlib.suppress(BrokenPipeError, ConnectionResetError):
             client.sendall(sent)
             client.shutdown(socket.SHUT_WR)
@@ -89,7 +88,7 @@ def known_load(client):
     for number in range(3):
         check("known: a read", reply(7 + number), sent(client, READ, 7 + number, 0, 2 * BLOCK))
         take(client, 2 * BLOCK)
-    check("known: a read beyond the end", reply(10, EINVAL), sent(client, READ, 10, hostile.BLOCKS * BLOCK, BLOCK))
+    check("known: a read beyond the end", reply(10, EINVAL), sent(client, READ, 10, BLOCKS * BLOCK, BLOCK))
 
 
 BODIES = 5 * (13 + BLOCK) + 2 * 13
@@ -132,7 +131,7 @@ def known(folder):
             check("known: the group took two syncs", 2, after["syncs"] - syncs)
             check_latencies(after)
             check_metrics(path)
-            client.sendall(request(DISC, 12, 0, 0))
+            client.sendall(request(DISC, 12))
             take(client, 1)
         check("known: a client that left", True, waited(lambda: figures(path)["clients"] == 0))
         check("known: the image that is told", server.image, figures(path)["image"])
@@ -226,8 +225,7 @@ def check_format(text):
 
 
 def run(*words):
-    found = subprocess.run([NBDJ, "status", *words], capture_output=True, text=True, timeout=60)
-    return found.returncode, found.stdout, found.stderr
+    return checks.run("status", *words)
 
 
 def check_printed(path):
@@ -290,7 +288,7 @@ def requests_of_others(folder):
 
 def mutated(folder):
     """Requests with random bytes changed, left out and added, while a client of the device goes on."""
-    drawn = random.Random(hostile.SEED)
+    drawn = random.Random(SEED)
     good = b"GET /metrics HTTP/1.1\r\nHost: x\r\nAccept: */*\r\n\r\n"
     with told(folder, "mutated") as (server, path):
         worst, is_over = [0.0], threading.Event()
@@ -324,16 +322,14 @@ def silent(folder):
     with told(folder, "silent", "--until-eof", stdin=subprocess.PIPE) as (server, path):
         with contextlib.ExitStack() as clients:
             for _ in range(4):
-                client = clients.enter_context(socket.socket(socket.AF_UNIX))
-                client.connect(path)
+                clients.enter_context(connected(path))
             began = time.monotonic()
             server.goes_on("beside silent clients of the status socket")
             check("silent: the device's clients don't wait", True, time.monotonic() - began < 1.5)
             check("silent: a further one is answered", "HTTP/1.1 200 OK", ask(path)[0])
             check("silent: it waits for no more than three seconds", True, time.monotonic() - began < 4.5)
             for _ in range(4):
-                client = clients.enter_context(socket.socket(socket.AF_UNIX))
-                client.connect(path)
+                clients.enter_context(connected(path))
             server.process.stdin.close()
             check("silent: the end", 0, server.process.wait(timeout=20))
 
@@ -343,7 +339,7 @@ def slow(folder):
     with told(folder, "slow", "--flush-interval", "0", **slow_device(folder)) as (server, path):
         with server.shaken() as client:
             check("slow: a write", reply(1), write(client, 1, 0, bytes(BLOCK)))
-            client.sendall(request(FLUSH, 2, 0, 0))
+            client.sendall(request(FLUSH, 2))
             time.sleep(0.5)
             began = time.monotonic()
             found = figures(path)
@@ -379,9 +375,8 @@ def stored(folder):
             check("stored: nothing pending", (0, 3), (figures(path)["pending_commands"], figures(path)["durable_number"]))
             check("stored: as a request", ("HTTP/1.1 200 OK", "3\n"), ask(path, "POST", "/store")[::2])
             write(client, 9, 3 * BLOCK, bytes([4]) * BLOCK)
-            server.process.kill()
-            server.process.wait(timeout=20)
-        check("stored: after a kill", "commands 3\n", subprocess.run([NBDJ, "recover", server.image], capture_output=True, text=True, timeout=60).stdout)
+            server.kill()
+        check("stored: after a kill", "commands 3\n", checks.run("recover", server.image)[1])
     check("stored: no server", (1, "", f"nbdj: not stored by {path}\n"), run(path, "--store"))
 
 
@@ -415,20 +410,12 @@ def unopened(folder):
     """A socket that can't be made."""
     path = os.path.join(folder, "no", "where")
     image = os.path.join(folder, "unopened.img")
-    subprocess.run([NBDJ, "format", image, "--size", "4M", "--area", "4M"], check=True, stdout=subprocess.DEVNULL)
-    found = subprocess.run([NBDJ, "serve", image, "--unix", os.path.join(folder, "s"), "--status", path], capture_output=True, text=True, timeout=60)
-    check("unopened: what is told", (1, "", f"nbdj: {path}: No such file or directory (os error 2)\nnbdj: stream fault (21)\n"), (found.returncode, found.stdout, found.stderr))
+    format_image(image, "--size", "4M", "--area", "4M")
+    found = checks.run("serve", image, "--unix", os.path.join(folder, "s"), "--status", path)
+    check("unopened: what is told", (1, "", f"nbdj: {path}: No such file or directory (os error 2)\nnbdj: stream fault (21)\n"), found)
 
 
-def main():
-    with tempfile.TemporaryDirectory() as folder:
-        for scenario in (known, requests_of_others, mutated, silent, slow, faulty, stored, stored_slowly, stored_by_a_device_that_fails, unopened):
-            begun = time.monotonic()
-            hostile.guarded(scenario, folder)
-            print(f"{scenario.__name__}: {time.monotonic() - begun:.1f} s", flush=True)
-    print(f"{hostile.passed} passed, {hostile.failed} failed")
-    return hostile.failed > 0
-
+SCENARIOS = (known, requests_of_others, mutated, silent, slow, faulty, stored, stored_slowly, stored_by_a_device_that_fails, unopened)
 
 if __name__ == "__main__":
-    sys.exit(main())
+    sys.exit(checks.run_scenarios(SCENARIOS))

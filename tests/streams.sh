@@ -24,11 +24,7 @@ ran() {
     serve*)
         sh -c "exec timeout 60 \"\$NBDJ\" $1 $2" <"$input" >said 2>&1 &
         serving=$!
-        tries=0
-        until [ -S d.sock ] || [ "$tries" -eq 200 ]; do
-            sleep 0.05
-            tries=$((tries + 1))
-        done
+        wait_for 10 test -S d.sock
         "$here/tools/copy-export" d.sock copy >/dev/null
         wait "$serving"
         ;;
