@@ -1,5 +1,5 @@
 #!/usr/bin/env python3
-"""Streams of `pipe` and `rehearse` of the built program NBDJ that come in pieces, end anywhere, or fail. What has to be printed was written by
+"""Streams of `pipe` and `rehearse` of the built program NBDJ that come in pieces, end anywhere, or fail. The expected output was written by
 hand. Prints a line for each check that fails, and last 'N passed, M failed'.
 """
 import os
@@ -18,7 +18,7 @@ PRINTED = b"done\ndone\ndone\nanswer 1 ok\ndone\narmed\nstopped\nopened 1\nrun 0
 
 
 def run(words, pieces, **settings):
-    """The status, the output and the errors of a run over an input that comes in these pieces."""
+    """The status, the output and the errors of a run whose input comes in these pieces."""
     one, other = socket.socketpair()
     with one, other, tempfile.TemporaryFile() as output, tempfile.TemporaryFile() as errors:
         settings = {"stdout": output, "stderr": errors, **settings}
@@ -34,7 +34,7 @@ def run(words, pieces, **settings):
 
 
 def cut_streams():
-    """A FLUSH, a WRITE that goes past the end, and a DISC, cut in two at each place, and ended there."""
+    """A FLUSH, a WRITE past the end, and a DISC: split at each place, and ended there."""
     format_image("d.img", "--blocks", "16", "--area", "2097152")
     requests = [request(FLUSH, 1), request(WRITE, 2, 16 * BLOCK - 99, 100) + bytes(100), request(DISC, 3)]
     stream, replies = b"".join(requests), [reply(1), reply(2, ENOSPC)]
@@ -60,7 +60,7 @@ def scripts():
             done = subprocess.run([NBDJ, "rehearse"], input=SCRIPT, stdout=output, stderr=subprocess.PIPE, preexec_fn=limited, restore_signals=False, timeout=60)
             output.seek(0)
             check(f"an output with room for {room} bytes", (1, PRINTED[:room], b"nbdj: stream fault (21)\n"), (done.returncode, output.read(), done.stderr))
-    # A peer that goes with bytes unread resets the connection, which is met behind what it sent.
+    # A peer that closes with bytes unread resets the connection; the reset comes after what it sent.
     one, other = socket.socketpair()
     other.sendall(b"unread")
     one.sendall(b"format 16 2097152 512\nsend 1 flush\nserve")

@@ -1,9 +1,8 @@
 #!/usr/bin/env python3
-"""Scripts of `rehearse` and sessions of `pipe` of the built program NBDJ, drawn at random, beside an image of plain bytes.
+"""Random scripts of `rehearse` and random sessions of `pipe` of the built program NBDJ, compared with an image of plain bytes.
 
-A script has all commands of sixteen connections, checkpoints and crashes, over a small image and over one with more blocks than frames, and
-prints what plain bytes hold. Sessions come one after another over one image, whose journal of 2 MiB fills on the way, and are answered as
-plain bytes answer them, the last of each with the whole image. Prints a line for each check that fails, and last 'N passed, M failed'.
+A script has all commands, of sixteen connections, checkpoints and crashes, over a small image and over one with more blocks than frames.
+Sessions come one after another over one image, whose journal of 2 MiB fills meanwhile; each ends with a READ of the whole image. Prints a line for each check that fails, and last 'N passed, M failed'.
 """
 import os
 import random
@@ -14,7 +13,7 @@ import checks
 from checks import BLOCK, DISC, FLUSH, FUA, MIB, NO_HOLE, READ, TRIM, WRITE, ZEROES, check, format_image, reply, request, run
 
 DATA, ZERO, HOLE = 0, 2, 3
-# Of a script: the blocks of its image, the bytes of an area, the most blocks of a command, and its turns. It has 512 frames.
+# Two kinds of scripts, with 512 frames: blocks of the image, bytes of an area, most blocks of a command, and steps.
 SCRIPTS = [(24, 2 * MIB, 5, 1500), (700, 16 * MIB, 40, 1500)]
 MOST_WRITTEN = 400
 SESSION_BLOCKS, SESSIONS, SESSION_TURNS = 48, 6, 150
@@ -22,7 +21,7 @@ SEEDS = 4711, 20260, 998244353
 
 
 def place_in_block(draws):
-    """A place in a block, or behind it: often where the block begins or ends, or beside that."""
+    """A place in a block or at its end, often next to one of its ends."""
     return draws.choice([0, 1, BLOCK - 1, BLOCK, *[draws.randrange(BLOCK)] * 2])
 
 
@@ -51,7 +50,7 @@ class Image:
         return range(-(-start // BLOCK), end // BLOCK)
 
     def runs(self, first, same):
-        """The longest runs of blocks from the first on that are the same: their first block and length."""
+        """The longest runs of equal blocks from `first` on: first block and length of each."""
         found = [[first, 1]]
         for block in range(first + 1, len(self.states)):
             if same(block - 1, block):
@@ -62,7 +61,7 @@ class Image:
 
 
 class Script:
-    """A script, what it has to print, and what the device then holds."""
+    """A script, what it has to print, and what the device holds after it."""
 
     def __init__(self, draws, blocks, area, most, mode):
         self.draws, self.blocks, self.most, self.mode = draws, blocks, most, mode
@@ -72,7 +71,7 @@ class Script:
         self.stored = self.image.copy()
         # How many commands there are, are stored, and are in map and data.
         self.count = self.durable = self.base = 0
-        # The blocks that a command which isn't in map and data wrote last.
+        # The blocks last written by a command that isn't in map and data yet.
         self.written = set()
         self.line(f"format {blocks} {area} 512 {mode}".rstrip(), "done")
 
@@ -81,18 +80,18 @@ class Script:
         self.printed.append(printed)
 
     def ask(self, connection, what):
-        """A request of a connection and its serving; the answer is asked for, and what that prints comes next."""
+        """Sends and serves a request, and asks for its answer, whose output comes next."""
         self.line(f"send {connection} {what}", "done")
         self.line(f"serve {connection}", "done")
         self.lines.append(f"answer {connection}")
 
     def drawn_blocks(self):
-        """A few blocks: the first one and the one behind them."""
+        """A few blocks, as the first one and the end."""
         first = self.draws.randrange(self.blocks - 1)
         return first, first + 1 + self.draws.randrange(min(self.blocks - first, self.most))
 
     def drawn_bytes(self):
-        """Bytes of a few blocks, which often begin or end at the border of a block, or beside it."""
+        """Bytes of a few blocks, which often begin or end at a border of blocks, or next to one."""
         first, behind = self.drawn_blocks()
         start = BLOCK * first + min(place_in_block(self.draws), BLOCK - 1)
         return start, max(BLOCK * (behind - 1) + place_in_block(self.draws), start + 1)
@@ -105,7 +104,7 @@ class Script:
         self.count += 1
 
     def zero(self, start, end, state):
-        """What a range touches gets this state, but for data that it covers in part."""
+        """The blocks that a range touches get this state, except data blocks that it covers in part."""
         self.image.fill(start, end, 0)
         for block in self.image.touched(start, end):
             if self.image.states[block] == DATA and block not in self.image.covered(start, end):
@@ -133,7 +132,7 @@ class Script:
         self.printed.append(f"answer {connection} ok")
 
     def answered_stored(self, connection):
-        """The answer that waits until all is stored, but in ordered."""
+        """The answer, which waits until everything is stored, except in ordered."""
         if self.durable < self.count and self.mode != "ordered":
             self.printed.append("held")
             self.store()
@@ -187,7 +186,7 @@ class Script:
         self.printed.append(f"answer {connection} runs" + "".join(f" {length}:{states[block]}" for block, length in runs))
 
     def checkpoint(self, connection):
-        """A whole checkpoint, with a READ in the midst of it."""
+        """A whole checkpoint, with a READ between its steps."""
         self.store()
         if self.durable == self.base:
             self.line("rotate", "held")
@@ -203,7 +202,7 @@ class Script:
         self.written.clear()
 
     def crash(self):
-        """What is stored is found, and carried into map and data."""
+        """A crash: what was stored is found, and copied into map and data."""
         self.lines.append("crash " + self.draws.choice(["old", "new", f"{self.draws.randrange(256):02x}"]))
         self.image = self.stored.copy()
         self.count = self.base = self.durable
@@ -215,7 +214,7 @@ class Script:
 
     def turn(self):
         connection = 1 + self.draws.randrange(16)
-        # So many commands always fit the area, and so many blocks the frames.
+        # Up to these limits commands always fit into the area, and blocks into the frames.
         if self.count - self.base > 60 or len(self.written) > MOST_WRITTEN:
             self.checkpoint(connection)
         kind = self.draws.randrange(50)
@@ -231,7 +230,7 @@ class Script:
 
 
 class Session:
-    """Requests of one connection, the replies that are due to them, and the bytes of the image."""
+    """The requests of one connection, their replies, and the bytes of the image."""
 
     def __init__(self, draws):
         self.draws = draws
@@ -239,7 +238,7 @@ class Session:
         self.cookie = 0
 
     def range(self):
-        """Over at most eight blocks: whole ones, or from a place in the first to one in the last."""
+        """A range over at most eight blocks: whole ones, or from within the first to within the last."""
         first = self.draws.randrange(SESSION_BLOCKS)
         length = BLOCK * (1 + self.draws.randrange(min(8, SESSION_BLOCKS - first)))
         if self.draws.randrange(2):
@@ -248,12 +247,12 @@ class Session:
         return first * BLOCK + front, length - front - min(place_in_block(self.draws), length - 1 - front)
 
     def bytes(self, count):
-        """So many bytes that differ from place to place."""
+        """Bytes that differ from place to place."""
         seed, step = self.draws.randrange(256), 1 + self.draws.randrange(97)
         return bytes((place * step + seed) % 256 for place in range(count))
 
     def turn(self):
-        """A request, and the data behind its reply."""
+        """A request, and its reply with data."""
         self.cookie += 1
         offset, length = self.range()
         fua = FUA * (self.draws.randrange(6) == 0)
@@ -269,7 +268,7 @@ class Session:
         else:
             start, end = offset, offset + length
             if kind == TRIM:
-                # the parts of blocks stay as they are
+                # (parts of blocks stay as they are)
                 start, end = -(-start // BLOCK) * BLOCK, end // BLOCK * BLOCK
             self.image[start:end] = bytes(max(end - start, 0))
         return request(kind, self.cookie, offset, length, flags) + data, reply(self.cookie) + shown

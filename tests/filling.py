@@ -1,10 +1,10 @@
 #!/usr/bin/env python3
-"""100,000 writes through `pipe` over a journal whose areas have 2 MiB, of which one fills every few hundred of them, by the built program
-NBDJ: 70,000 over one of two areas, and 30,000 over one of four. Half are of a block, the others of any bytes.
+"""100,000 writes through `pipe` of the built program NBDJ, over a journal whose areas have 2 MiB and fill every few hundred writes: 70,000 over
+two areas, and 30,000 over four. Half of the writes are of a block, the others of any bytes.
 
 Each life of the server is killed (SIGKILL) once it has answered a seeded number of requests, or ends with its input. Then the image is
-recovered, and is the image after some first writes of those that were sent, all that a FLUSH confirmed among them; the next life goes
-on from there. Prints a line for each check that fails, and last 'N passed, M failed'.
+recovered: it has to be the image after a prefix of the writes that has every confirmed one. The next life goes on from there. Prints a line
+for each check that fails, and last 'N passed, M failed'.
 """
 import contextlib
 import os
@@ -22,7 +22,7 @@ BLOCKS, SEED = 2048, 17
 
 
 def bytes_of(number, offset, length):
-    """The bytes that the write with this number puts there: they differ from write to write and from place to place."""
+    """The bytes of the write with this number, which differ from write to write and from place to place."""
     cells = range(offset // 8, (offset + length + 7) // 8)
     return b"".join(struct.pack(">II", number, place) for place in cells)[offset % 8:][:length]
 
@@ -35,7 +35,7 @@ def any_range(random_source):
 
 
 def requests_of(writes, random_source):
-    """The requests of a life, each with the number of its last write: the writes, a FLUSH behind every hundred or so, and a DISC."""
+    """The requests of a life, each with the number of the last write so far: the writes, a FLUSH after about every hundred, and a DISC."""
     requests = []
     for number, offset, length in writes:
         requests.append((WRITE, number, offset, bytes_of(number, offset, length)))
@@ -51,14 +51,14 @@ def text_of(requests):
 
 
 def feed(stream, requests):
-    """Writes the requests; a server that was killed reads no more of them."""
+    """Writes the requests, until the server is killed."""
     with contextlib.suppress(BrokenPipeError), stream:
         for text in text_of(requests):
             stream.write(text)
 
 
 def live(image, requests, answers_wanted):
-    """Serves the requests, and kills the server once it has given so many answers; the requests that were answered Ok, and the status."""
+    """Serves the requests, and kills the server after this many answers; how many were answered Ok, and the status."""
     with subprocess.Popen([NBDJ, "pipe", image], stdin=subprocess.PIPE, stdout=subprocess.PIPE, stderr=subprocess.DEVNULL) as server:
         feeder = threading.Thread(target=feed, args=(server.stdin, requests), daemon=True)
         feeder.start()
@@ -78,7 +78,7 @@ def live(image, requests, answers_wanted):
 
 
 def fill(layout, writes_wanted, lives):
-    """The writes over a device of this layout, in so many lives."""
+    """Sends the writes over an image of this layout, in several lives of the server."""
     random_source = random.Random(SEED * layout)
     area = 2097152 * layout
     begin = 8192 + 2 * area + 2 * BLOCK
@@ -91,7 +91,7 @@ def fill(layout, writes_wanted, lives):
             count = (writes_wanted - last) // (lives - life) + 1
             writes = [(last + 1 + index, *any_range(random_source)) for index in range(count)]
             requests = requests_of(writes, random_source)
-            # (the last life, and each fifth, comes to its end)
+            # (each fifth life, and the last one, ends with its input)
             whole = life % 5 == 4 or life == lives - 1
             wanted = len(requests) if whole else random_source.randrange(count // 2, len(requests) - 1)
             answered, status = live(path, requests, wanted)

@@ -1,8 +1,8 @@
 #!/usr/bin/env python3
-"""Handshakes over a socket of `serve` of the built program NBDJ, bytes in and bytes out: each option by what was agreed on before it, what
-comes behind it, data that are too long, and sessions that are broken off.
+"""Handshakes over a socket of `serve` of the built program NBDJ, bytes in and bytes out: each option in each state of the handshake, what
+follows it, data that are too long, and sessions that are broken off.
 
-What an option has changed is seen by an EXPORT_NAME and requests behind it. What each client has to be answered was written by hand.
+An EXPORT_NAME and requests after an option show what it has changed. The expected answers were written by hand.
 Prints a line for each check that fails, and last 'N passed, M failed'.
 """
 import os
@@ -50,7 +50,7 @@ GO_TOLD = of(told(GO, 3, "0000 0000000000010000 01ed"), told(GO, 3, "0003 000000
 INFO_TOLD = of(told(INFO, 3, "0000 0000000000010000 016d"), told(INFO, 3, "0003 00000001 00001000 00100000"), acknowledged(INFO))
 LISTED = of(told(LIST_CONTEXT, 4, f"00000000 {ALLOCATION}"), acknowledged(LIST_CONTEXT))
 
-# What has been agreed on: what is sent for it and answered, the transmission flags, and the replies to a READ and a BLOCK_STATUS.
+# A state of the handshake: what leads to it, the answers to that, the transmission flags, and the replies to a READ and a BLOCK_STATUS.
 PLAIN = (b"", b"", "016d", of(reply(5), "00", reply(6, 22)))
 NO_STATES = "668e33ef 0001 8001 0000000000000006 00000006 00000016 0000"
 STATES = "668e33ef 0001 0005 0000000000000006 0000000c 00000001 00001000 00000003"
@@ -61,7 +61,7 @@ SELECTED = (STRUCTURED[0] + option(SET_CONTEXT, SELECT), STRUCTURED[1] + SELECTS
 PROBES = request(READ, 5, LAST, 1) + request(STATUS, 6, LAST, BLOCK)
 NEXT_OPTION, TRANSMISSION, NOTHING = "an option", "transmission", "nothing"
 
-# An option with its data, what was agreed on before, the answer, what is agreed on then, and what comes behind it.
+# An option with its data, the state before it, the answer, the state after it, and what follows.
 OPTIONS = [
     (ABORT, "07", SELECTED, acknowledged(ABORT), SELECTED, NOTHING),
     (LIST, "", STRUCTURED, EXPORTS, STRUCTURED, NEXT_OPTION),
@@ -83,7 +83,7 @@ OPTIONS = [
     (GO, "00000005 0000", PLAIN, refused(GO, 3), PLAIN, NEXT_OPTION),
     (INFO, "00000000 0002 0101 0003", PLAIN, INFO_TOLD, PLAIN, NEXT_OPTION),
     *[(number, data, PLAIN, refused(number, 3), PLAIN, NEXT_OPTION) for number, data in (
-        # Counts that are too small or too large, half a type behind the last, a name that is longer than all.
+        # Counts that are too small or too large, half a type after the last one, a name that is longer than the data.
         (GO, "00000000 0001 0003 0102"), (INFO, "00000000 0003 0003 0102"), (GO, "00000000 ffff 0003"), (GO, "00000000 0001 0003 01"),
         (INFO, "ffffffff 0000"),
         # Data that end early.
@@ -109,7 +109,7 @@ OPTIONS = [
     (LIST_CONTEXT, "00000000 00000000", SELECTED, LISTED, SELECTED, NEXT_OPTION),
     (LIST_CONTEXT, "00000000 00000002 00000001 78 00000005 626173653a", STRUCTURED, LISTED, STRUCTURED, NEXT_OPTION),
     (LIST_CONTEXT, "00000000 00000001 00000006 626173653a61", STRUCTURED, acknowledged(LIST_CONTEXT), STRUCTURED, NEXT_OPTION),
-    # Data of 65,536 bytes are read, and longer ones aren't.
+    # Data of 65,536 bytes are looked at, longer ones are dropped.
     (LIST, bytes(65_536), PLAIN, refused(LIST, 3), PLAIN, NEXT_OPTION),
     (LIST, bytes(65_537), SELECTED, refused(LIST, 9), SELECTED, NEXT_OPTION),
     (LIST, bytes(1_000_000), PLAIN, refused(LIST, 9), PLAIN, NEXT_OPTION),
@@ -119,42 +119,42 @@ OPTIONS = [
 
 def options(folder):
     with served(folder, "options", 16) as path:
-        for number, data, before, written, after, behind in OPTIONS:
+        for number, data, before, written, after, follows in OPTIONS:
             for flags, zeroes in ((1, 124), (3, 0)):
                 sent = of(f"{flags:08x}", before[0], option(number, data))
                 wanted = of(GREETING, before[1], written)
-                if behind == NEXT_OPTION:
+                if follows == NEXT_OPTION:
                     sent += option(LIST) + option(1)
                     wanted += EXPORTS + of("0000000000010000", after[2], bytes(zeroes))
-                if behind != NOTHING:
+                if follows != NOTHING:
                     wanted += after[3]
-                name = f"option {number} with {len(of(data))} bytes {of(data)[:40].hex(' ', 4)}, flags {flags}, behind {len(before[0])} bytes"
+                name = f"option {number} with {len(of(data))} bytes {of(data)[:40].hex(' ', 4)}, flags {flags}, after {len(before[0])} bytes"
                 check(name, wanted.hex(" ", 4), answers(connected, path, [sent + PROBES], len(wanted)).hex(" ", 4))
 
 
-# The last block read, two bytes written over a border, a FLUSH and a DISC; the second byte of the last request isn't looked at.
+# A READ of the last block, a WRITE of two bytes across a border of blocks, a FLUSH and a DISC.
 REQUESTS = request(READ, 2, LAST, 1) + request(WRITE, 3, BLOCK - 1, 2) + b"AB" + request(FLUSH, 5) + request(DISC, 7)
 SIMPLE = of(reply(2), "00", reply(3), reply(5))
 CHUNKS = of(f"668e33ef 0001 0002 0000000000000002 0000000c {LAST:016x} 00000001", reply(3), reply(5))
 
-# What a client sends behind its flags, and what is written behind the greeting.
+# What a client sends, and what it is answered after the greeting.
 BEGINNINGS = [
     ("a name with zeroes", of("00000001", option(1)), of("0000000000010000 016d", bytes(124), SIMPLE)),
     ("a name without zeroes", of("00000003", option(1)), of("0000000000010000 016d", SIMPLE)),
-    ("a name with zeroes behind structured replies", of("00000001", STRUCTURED[0], option(1)),
+    ("a name with zeroes after structured replies", of("00000001", STRUCTURED[0], option(1)),
      of(STRUCTURED[1], "0000000000010000 01ed", bytes(124), CHUNKS)),
-    ("a name without zeroes behind structured replies", of("00000003", STRUCTURED[0], option(1)),
+    ("a name without zeroes after structured replies", of("00000003", STRUCTURED[0], option(1)),
      of(STRUCTURED[1], "0000000000010000 01ed", CHUNKS)),
     ("a GO that asks for nothing", of("00000003", option(GO, "00000000 0000")), of(export("016d"), acknowledged(GO), SIMPLE)),
-    # The name's length is 5, in 6 bytes; an INFO that asks for the sizes doesn't count for the GO behind it.
+    # The name's length is 5, in 6 bytes; an INFO that asks for the sizes doesn't count for the GO after it.
     ("a GO that is malformed, an INFO and a GO",
      of("00000003", option(GO, "00000005 6162"), option(INFO, "00000000 0001 0003"), option(GO, "00000000 0000")),
      of(refused(GO, 3), INFO_TOLD, export("016d"), acknowledged(GO), SIMPLE)),
     ("options in turn",
      of("00000003", option(LIST, "00"), option(STARTTLS, "abcd"), option(STRUCTURED_REPLY), option(0x63), option(GO, "00000000 0001 0003")),
      of(refused(LIST, 3), refused(STARTTLS, 1), acknowledged(STRUCTURED_REPLY), refused(0x63, 1), GO_TOLD, CHUNKS)),
-    # What ends a session: client flags other than those of a fixed newstyle, a name that can't be refused, an ABORT, another magic
-    # number, and a GO in the place of a request.
+    # These end a session: client flags other than those of a fixed newstyle, another name, an ABORT, another magic number, and a GO in
+    # place of a request.
     *[(f"client flags {flags}", of(flags, option(1)), b"") for flags in (
         "00000000", "00000002", "00000004", "00000005", "00000007", "00000101", "00400003", "80000001", "80000003", "01000001")],
     *[(f"the name of another export, flags {flags}", of(flags, option(1, "61")), b"") for flags in ("00000001", "00000003")],
@@ -174,12 +174,12 @@ def beginnings(folder):
             hold(name, connected, path, sent + REQUESTS, GREETING + written)
 
 
-# The bytes of a name that isn't ASCII alone, what asks for it with no types of information, and what selects its context.
+# The bytes of a name that isn't all ASCII, the same as a string, and the answer to a LIST.
 NAME = "76 6d c3 a9"
 NAMED = f"00000004 {NAME}"
 LISTS_NAME = of(told(LIST, 2, NAMED), acknowledged(LIST))
 
-# An option over an export of this name, structured replies agreed on before: the answer to it, and whether transmission begins.
+# An option for an export of this name, after structured replies: the answer, and whether transmission begins.
 NAMES = [
     (LIST, "", LISTS_NAME, False),
     (1, NAME, of("0000000000010000 01ed"), True),
@@ -187,7 +187,7 @@ NAMES = [
     (INFO, f"{NAMED} 0000", of(told(INFO, 3, "0000 0000000000010000 01ed"), acknowledged(INFO)), False),
     (SET_CONTEXT, f"{NAMED} 00000001 0000000f {ALLOCATION}", SELECTS, False),
     (LIST_CONTEXT, f"{NAMED} 00000000", LISTED, False),
-    # The empty name, a shorter one, a longer one, and one with another last byte are of no export.
+    # The empty name, a shorter one, a longer one, and one with another last byte belong to no export.
     *[(number, f"{name}{rest}", refused(number, 6), False) for number, rest in ((GO, " 0000"), (INFO, " 0000"), (SET_CONTEXT, SELECT[8:]), (LIST_CONTEXT, " 00000000"))
       for name in ("00000000", "00000003 76 6d c3", f"00000005 {NAME} 00", "00000004 76 6d c3 a8")],
     *[(1, name, b"", None) for name in ("", "76 6d c3", f"{NAME} 00", "76 6d c3 a8")],
@@ -209,16 +209,16 @@ def names(folder):
 
 
 def unflushed(folder):
-    """In the mode `ordered` neither FLUSH nor FUA is offered, and both are answered."""
+    """In `ordered` neither FLUSH nor FUA is offered, and both are answered."""
     with served(folder, "unflushed", 16, "--cache", "ordered") as path:
-        for name, before, flags, behind in (("plain", PLAIN, "0161", SIMPLE), ("structured", STRUCTURED, "01e1", CHUNKS)):
+        for name, before, flags, follows in (("plain", PLAIN, "0161", SIMPLE), ("structured", STRUCTURED, "01e1", CHUNKS)):
             sent = of("00000003", before[0], option(INFO, "00000000 0000"), option(1)) + request(WRITE, 9, 0, 1, 1) + b"C" + REQUESTS
-            wanted = of(GREETING, before[1], told(INFO, 3, f"0000 0000000000010000 {flags}"), acknowledged(INFO), f"0000000000010000 {flags}", reply(9), behind)
+            wanted = of(GREETING, before[1], told(INFO, 3, f"0000 0000000000010000 {flags}"), acknowledged(INFO), f"0000000000010000 {flags}", reply(9), follows)
             check(f"unflushed: {name}", wanted.hex(" ", 4), answers(connected, path, [sent], len(wanted)).hex(" ", 4))
 
 
 def asked(path, name):
-    """What a GO for this name is answered, behind the greeting."""
+    """The answer to a GO for this name, after the greeting."""
     data = struct.pack(">I", len(name)) + name.encode() + bytes(2)
     wanted = len(GREETING) + max(len(export("016d")) + len(acknowledged(GO)), len(refused(GO, 6)))
     return answers(connected, path, [of("00000003", option(GO, data))], wanted)[len(GREETING):]
@@ -255,7 +255,7 @@ WHOLE_TOLD = of(GREETING, STRUCTURED[1], GO_TOLD, reply(0x0102030405060708),
 
 
 def whole(folder):
-    """A whole session, cut in two round each message, byte by byte, and with another byte in the magic number of its second option."""
+    """A whole session in two pieces, byte by byte, and with a changed byte in the magic number of its second option."""
     with served(folder, "whole", 16) as path:
         for cut in [*range(160), *range(len(WHOLE) - 100, len(WHOLE))]:
             check(f"cut at {cut}", True, answers(connected, path, [WHOLE[:cut], WHOLE[cut:]], len(WHOLE_TOLD)) == WHOLE_TOLD)

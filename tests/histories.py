@@ -5,11 +5,11 @@ usage: tests/histories.py [--operations N] [--seed S] [--kills K] [--cache MODE]
 
 Twelve clients write, clear, flush and read a few blocks of one image. Half of them use TCP, half a Unix socket; half send one request at a time,
 half up to eight. Each WRITE puts a value of its own into each sector, so what a READ finds names the write. Then the server is killed (SIGKILL) or
-its power is cut: any part stays of what it wrote since the last sync (tests/preloads/undo_calls.c). It starts again over the same image, and the clients go
+its power is cut: then any part of what it wrote since the last sync stays (tests/preloads/undo_calls.c). It starts again over the same image, and the clients go
 on. For each life of the server tests/history_checker.py decides from the requests, the answers, their times and what is left whether one order fits,
 as docs/ASSURANCE.md promises it. This is done for `writeback`, `writethrough` and `ordered`, each over an image of its own.
 
-Not decided: what BLOCK_STATUS tells, because no client asks; writes of parts of sectors, which other tests send; whether and how soon a request is
+Not decided: the answers to BLOCK_STATUS, because no client asks; writes of parts of sectors, which other tests send; whether and how soon a request is
 answered. Times are those of this process, so an order that only the exact times of the server would exclude fits. A life for which neither an order
 nor a contradiction is found counts as undecided, and isn't a failure.
 
@@ -46,7 +46,7 @@ AREAS = {1: 2097152, 2: 4194304}
 CODES = {"READ": checks.READ, "WRITE": checks.WRITE, "FLUSH": checks.FLUSH, "TRIM": checks.TRIM, "WRITE_ZEROES": checks.ZEROES}
 CLIENTS, DEPTH, PER_LIFE, SECONDS = 12, 8, 400, 120
 MODES = {"writeback": 5, "writethrough": 2, "ordered": 3}
-# How often a client asks for what: one that does all, one that writes, one that reads.
+# How often a client sends each kind: one that does everything, one that mostly writes, one that mostly reads.
 KINDS = ("READ", "filler", "WRITE", "WRITE_ZEROES", "TRIM", "FLUSH")
 HABITS = ((40, 3, 38, 6, 4, 6), (12, 1, 66, 8, 5, 8), (75, 8, 10, 2, 1, 4))
 
@@ -170,7 +170,7 @@ def some_order(mode, opening, commands, end):
 
 
 def drawn_history(source, most, count):
-    """A history of a right server over a few cells; in every second one a few values are changed."""
+    """A history of a correct server over a few cells; in about every second one some values are changed."""
     opening = {cell: source.choice((0, 900 + cell)) for cell in range(most)}
     commands = []
     for number in range(1, count + 1):
@@ -348,7 +348,7 @@ class Client:
         self.values = self.cookie = 0
 
     def connect(self, server, is_rare):
-        """Connects. In some lives FLUSH is rare, and no write has FUA."""
+        """Connects. If `is_rare`, FLUSHes are rare and no write has FUA."""
         self.is_rare = is_rare
         self.socket = server.connect(self.by_tcp)
         self.socket.setblocking(False)
@@ -492,7 +492,7 @@ def live(server, clients, most, source):
 
 
 def opened(server, source):
-    """Starts the server and reads all blocks that clients write. Some starts before that are cut short, and some servers are killed after it."""
+    """Starts the server and reads all blocks that clients write. Sometimes it is killed during the start before, or after the READs."""
     while source.randrange(5) == 0:
         server.launch()
         time.sleep(source.random() * 0.05)
@@ -507,7 +507,7 @@ def opened(server, source):
                 if asked(client, "READ", LIVE * BLOCK + first, length) != FILLED[first:first + length]:
                     raise ValueError(f"{length} bytes at {LIVE * BLOCK + first} aren't those that were written there at first")
     if source.randrange(3) == 0:
-        # (The next one has no block in memory.)
+        # (the next server has no block in memory)
         server.end()
         server.launch()
         server.listen()
@@ -580,7 +580,7 @@ def main():
     words.add_argument("--keep")
     words.add_argument("--only-checker", action="store_true")
     given = words.parse_args()
-    # (So that a server doesn't outlive a test that is stopped.)
+    # (so that no server outlives a test that is stopped)
     signal.signal(signal.SIGTERM, lambda *_: sys.exit(1))
     print(f"the seed is {given.seed}", flush=True)
     began = time.monotonic()

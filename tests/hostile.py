@@ -1,8 +1,8 @@
 #!/usr/bin/env python3
-"""Clients that keep to no protocol, against `serve` of the built program NBDJ: silent ones, slow ones, cut ones, and random bytes.
+"""Clients that break the protocol, against `serve` of the built program NBDJ: silent, slow and disconnected ones, and random bytes.
 
-After each of them the server goes on, its resident memory is below a bound, and a good client is served. Beside it the processors may be
-busy: no check asks for a speed. Prints a line for each check that fails, and last 'N passed, M failed'.
+After each of them the server lives, its resident memory is below a bound, and a good client is served. No check depends on the speed of
+the machine. Prints a line for each check that fails, and last 'N passed, M failed'.
 """
 import contextlib
 import os
@@ -25,34 +25,33 @@ SECONDS, SEED = 10, int(os.environ.get("HOSTILE_SEED", "29"))
 
 
 def silent(folder):
-    """64 clients say nothing, four at a time for a second each, since others wait: the good one comes after them."""
+    """64 clients are silent. Four at a time have a worker, for a second each because others wait; a good client comes last."""
     with Server(folder, "silent", 4) as server:
         clients = [server.connect(120) for _ in range(64)]
         begun = time.monotonic()
-        # The good one waits in the same queue, behind them.
         server.goes_on("64 silent clients", 120)
         waited = time.monotonic() - begun
         check("64 silent clients: the good one waited 14 to 60 seconds", True, 14 <= waited <= 60 or waited)
-        # Each was greeted and then let go.
+        # Each was greeted and then disconnected.
         ends = [take(client, 19) for client in clients]
-        check("64 silent clients: each is greeted and let go", 64, sum(1 for end in ends if len(end) == 18 and end[:8] == b"NBDMAGIC"))
+        check("64 silent clients: each is greeted and disconnected", 64, sum(1 for end in ends if len(end) == 18 and end[:8] == b"NBDMAGIC"))
         for client in clients:
             client.close()
 
 
 def slow_handshake(folder):
-    """A silence in the midst of the handshake ends the session too."""
+    """A silence during the handshake ends the session too."""
     with Server(folder, "slow", 1, "--handshake-timeout", "1") as server:
         for count in (1, 4, 12, len(FLAGS) + 20, len(HANDSHAKE) - 1):
             with server.connect() as client:
                 client.sendall(HANDSHAKE[:count])
-                check(f"a silence behind {count} bytes", 18, len(take(client, 100)))
-        server.goes_on("silences in the midst of the handshake")
-        # Once the handshake is over a client may say nothing for longer.
+                check(f"a silence after {count} bytes", 18, len(take(client, 100)))
+        server.goes_on("silences during the handshake")
+        # After the handshake a client may be silent for longer.
         with server.shaken() as client:
             time.sleep(2.5)
             client.sendall(request(FLUSH, 5))
-            check("a silence behind the handshake", reply(5), take(client, 16))
+            check("a silence after the handshake", reply(5), take(client, 16))
 
 
 def announced(folder):
@@ -76,7 +75,7 @@ def announced(folder):
 
 
 def deaf(folder):
-    """Clients that ask for more than their sockets hold and never read; others are served meanwhile, and their places are free later."""
+    """Clients that ask for more than their sockets hold and never read. Others are still served, and their workers are free later."""
     with Server(folder, "deaf", 4) as server:
         with server.shaken() as client:
             for number in range(4):
@@ -98,7 +97,7 @@ def deaf(folder):
             dropped(client)
         server.goes_on("clients that read no replies are gone")
         others = [server.shaken() for _ in range(3)]
-        server.goes_on("their places")
+        server.goes_on("their workers")
         for client in others:
             client.close()
 
@@ -114,12 +113,12 @@ def half_closed(folder):
             client.shutdown(socket.SHUT_WR)
             check("half-closed in the handshake", (18, b""), (len(take(client, 18)), take(client, 1)))
         server.goes_on("half-closed clients")
-        # What was asked before the end is answered, though no DISC came.
+        # Requests before the end are answered, though no DISC came.
         with server.shaken() as client:
             client.sendall(request(WRITE, 1, 5 * BLOCK, BLOCK) + block_of(77) + request(READ, 2, 5 * BLOCK, BLOCK))
             client.shutdown(socket.SHUT_WR)
             wanted = reply(1) + reply(2) + block_of(77)
-            check("half-closed behind requests", True, take(client, len(wanted) + 1) == wanted)
+            check("half-closed after requests", True, take(client, len(wanted) + 1) == wanted)
         with server.shaken() as client:
             client.sendall(request(WRITE, 1, 6 * BLOCK, BLOCK) + block_of(78)[:100])
             client.shutdown(socket.SHUT_WR)
@@ -136,23 +135,23 @@ def half_closed(folder):
 
 
 def cut(folder):
-    """A session that ends behind each byte of its handshake and of its first requests, by a close and by a reset."""
+    """A session that ends after each byte of its handshake and first requests, by a close and by a reset."""
     with Server(folder, "cut", 2) as server:
         whole = LONG_HANDSHAKE + request(READ, 1, 0, BLOCK) + request(STATUS, 2, 0, BLOCK) + request(WRITE, 3, 0, BLOCK)
         for count in range(len(whole) + 1):
             for end in (socket.socket.close, dropped):
                 client = server.connect()
-                # (where the server has closed meanwhile there's nothing to send any more)
+                # (the server may have closed already)
                 with contextlib.suppress(OSError):
                     client.sendall(whole[:count])
                 end(client)
             if count % 40 == 0:
-                server.goes_on(f"a session cut behind {count} bytes")
+                server.goes_on(f"a session cut after {count} bytes")
         server.goes_on("sessions that were cut")
 
 
 def parted(folder):
-    """A whole session whose input comes in two pieces, parted at each byte: what is written is the same each time."""
+    """A whole session in two pieces, split at each byte: the answers are the same each time."""
     data = block_of(7)
     whole = FLAGS + option(STRUCTURED) + go() + request(WRITE, 1, 0, BLOCK) + data + request(READ, 2, 0, BLOCK)
     whole += request(FLUSH, 3) + request(DISC, 4)
@@ -168,18 +167,18 @@ def parted(folder):
         for place in range(1, len(whole)):
             with server.connect() as client:
                 client.sendall(whole[:place])
-                # (so that the server is likely to have read the first piece by itself)
+                # (so that the server probably reads the first piece by itself)
                 time.sleep(0.0003)
                 client.sendall(whole[place:])
                 if take(client, len(wanted) + 1) != wanted:
                     wrong.append(place)
-        check(f"a session parted at each of {len(whole) - 1} places: where other bytes are written", [], wrong[:9])
-        server.goes_on("parted sessions")
+        check(f"a session split at each of {len(whole) - 1} places: where the answers differ", [], wrong[:9])
+        server.goes_on("split sessions")
 
 
 def largest(folder):
-    """The largest image, all holes: a write, a trim of as many bytes as a request can name, and their states as one run, though together they
-    touch as many blocks as 32 bits have no bytes for."""
+    """The largest image, all holes: a write, the longest possible trim, and the states of its bytes as one run, though the blocks that they
+    touch have more bytes than 32 bits can count."""
     blocks, image = 1 << 24, os.path.join(folder, "largest.img")
     format_image(image, "--blocks", str(blocks), "--area", "4194304", "--layout", "2")
     with serve(image, "--listen", "127.0.0.1:0", "--frames", str(FRAMES), "--sessions", "1") as server:
@@ -189,7 +188,7 @@ def largest(folder):
             client.sendall(request(STATUS, 3, 1, 0xFFFFFFFF) + request(FLUSH, 4) + request(DISC, 5))
             wanted = "67446698 00000000 0000000000000001 67446698 00000000 0000000000000002"
             wanted += "668e33ef 0001 0005 0000000000000003 0000000c 00000001 ffffffff 00000003 67446698 00000000 0000000000000004"
-            check("what the largest image answers", bytes.fromhex(wanted).hex(), take(client, 16 * 3 + 32 + 1).hex())
+            check("the answers of the largest image", bytes.fromhex(wanted).hex(), take(client, 16 * 3 + 32 + 1).hex())
         check("the largest image: the server ends", 0, server.wait(timeout=60))
     _, told, _ = run("check", image)
     check("a check of the largest image", f"layout 2\nblocks {blocks}\nmode 0\nbase 0\ncommands 2\ndata 0\nzero 0\nhole {blocks}\n", told)
@@ -202,7 +201,7 @@ def oversized(folder):
         for number in (1, GO, SET_CONTEXT, 99):
             for length in (65_537, 33_554_433, 0xFFFFFFFF):
                 with server.connect() as client:
-                    # (the server may close in the midst of it)
+                    # (the server may close before it has read all)
                     with contextlib.suppress(OSError):
                         client.sendall(FLAGS + b"IHAVEOPT" + struct.pack(">II", number, length))
                         for _ in range(64):
@@ -212,7 +211,7 @@ def oversized(folder):
         with server.connect() as client:
             client.sendall(FLAGS + option(99, bytes(33_554_432)) + go())
             found = take(client, 18 + 20 + 32 + 34 + 20)
-            check("an option of 32 MiB is thrown away", (0x80000009, 1), (struct.unpack(">I", found[30:34])[0], struct.unpack(">I", found[-8:-4])[0]))
+            check("an option of 32 MiB is dropped", (0x80000009, 1), (struct.unpack(">I", found[30:34])[0], struct.unpack(">I", found[-8:-4])[0]))
             server.watch()
             client.sendall(request(WRITE, 1, 0, 33_554_432))
             for _ in range(32):
@@ -228,7 +227,7 @@ def oversized(folder):
 
 
 def random_session(source):
-    """What a client of random bytes sends: bytes alone, ones behind a handshake, a handshake with some changed, requests of any fields."""
+    """What a random client sends: random bytes, alone or after a handshake; a changed handshake; or requests with random fields."""
     kind = source.randrange(4)
     if kind == 0:
         return source.randbytes(source.randrange(1, 400))
@@ -251,7 +250,7 @@ def random_session(source):
 
 
 def random_bytes(folder):
-    """Random sessions for so many seconds, two at a time."""
+    """Random sessions for SECONDS seconds, two at a time."""
     with Server(folder, "random", 4) as server:
         counts = [0, 0]
 
@@ -259,7 +258,7 @@ def random_bytes(folder):
             source = random.Random(SEED + index)
             while time.monotonic() < end and server.process.poll() is None:
                 session = random_session(source)
-                # A server that closes, or that is busy with a reply nobody reads, takes no more.
+                # (the server may have closed, or be busy with a reply that nobody reads)
                 with contextlib.suppress(OSError), server.connect(2) as client:
                     client.sendall(session)
                     if source.randrange(2):

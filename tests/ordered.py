@@ -3,13 +3,14 @@
 
 usage: tests/ordered.py [--cuts N] [--seed N] [--only SERVER] [--keep]
 
-SQLite in two journal modes, and PostgreSQL and MariaDB if they are installed, commit on ext4 that sends its flushes, until the server and its disk stop at one
-moment. The disk then keeps what was synced, and any bytes in the rest. After the recovery of each layer the file system has to be clean, and each database whole: no row is missing
-before the last one. Commits that were told may be gone. The same load runs over two more servers: `--cache writeback`, where none may be gone;
-and nbdkit with a file system that sends no flushes (barrier=0), which some cut has to corrupt: otherwise these checks show nothing.
+SQLite in two journal modes, and PostgreSQL and MariaDB if they are installed, commit on ext4 that sends its flushes, until the server and its
+disk stop at one moment. The disk then keeps what was synced, and may have any bytes in the rest. After the recovery of each layer the file
+system has to be clean and each database whole: no row is missing before the last one. Confirmed commits may be lost. The same load runs over two
+more servers: `--cache writeback`, where none may be lost; and nbdkit under a file system that sends no flushes (barrier=0), which some cut has
+to corrupt: otherwise these checks show nothing.
 
-Root alone can mount, so without it, or without a client that it needs, the script says so and checks nothing. It prints a line for each cut, one for
-each check that fails, and last 'N passed, M failed'.
+Only root can mount, so without it, or without a client that it needs, the script says so and checks nothing. It prints a line for each cut, one
+for each check that fails, and last 'N passed, M failed'.
 """
 import argparse
 import os
@@ -87,7 +88,7 @@ class Nbdkit:
 
 
 def cut_once(folder, server, image, drawn):
-    """Loads the databases until a cut: what is wrong then, and of each database how many commits are gone, of how many, and the seconds."""
+    """Loads the databases until a cut: what is wrong then; for each database how many commits are lost, within how many seconds, and how many there were; the syncs."""
     disk = CutDisk(image)
     chain = Chain(f"{folder}/chain", disk, server.words, server.options)
     started, loads = [], []
@@ -113,7 +114,7 @@ def cut_once(folder, server, image, drawn):
 
 
 def judged(folder, raw):
-    """What is wrong in a file system after its own recovery, and the last row of each database."""
+    """What is wrong with a file system after its own recovery, and the last row of each database."""
     wrong, mount = [], f"{folder}/judged"
     run(["e2fsck", "-y", "-E", "journal_only", raw], check=False)
     status, text = run(["e2fsck", "-fn", raw], check=False)
@@ -133,7 +134,7 @@ def judged(folder, raw):
 
 
 def cuts_of(folder, server, raw, count, seed):
-    """So many cuts: how many left something wrong, and all that was lost."""
+    """Makes this many cuts: how many left something wrong, and what each lost."""
     with open(server.made(folder, raw), "rb") as file:
         image = file.read()
     corrupt, losses = 0, []
@@ -149,7 +150,7 @@ def cuts_of(folder, server, raw, count, seed):
 
 def main():
     words = argparse.ArgumentParser(usage=__doc__.split("\n")[2].removeprefix("usage: "))
-    words.add_argument("--cuts", type=int, default=3, help="of each server; by default 3")
+    words.add_argument("--cuts", type=int, default=3, help="cuts of each server; by default 3")
     words.add_argument("--seed", type=int, default=1)
     words.add_argument("--only", choices=("ordered", "writeback", "nbdkit"), help="this server alone; by default all three")
     words.add_argument("--keep", action="store_true", help="keeps the folder with the last images")

@@ -1,8 +1,8 @@
 #!/usr/bin/env python3
 """Requests of any bytes, and the ways to begin a session, over sockets of `serve` of the built program NBDJ: bytes in, bytes out.
 
-Each stream is sent in one piece and, where it is shorter than 400 bytes, in two that are parted at each place. What it has to be answered
-was computed by hand. Prints a line for each check that fails, and last 'N passed, M failed'.
+Each stream is sent in one piece and, if it is shorter than 400 bytes, in two pieces, split at each place. The expected answers were
+computed by hand. Prints a line for each check that fails, and last 'N passed, M failed'.
 """
 import contextlib
 import socket
@@ -15,7 +15,7 @@ from checks import (
     served, shake,
 )
 
-MOST_PARTED = 400
+MOST_SPLIT = 400
 GREETING = bytes.fromhex("4e42444d41474943 49484156454f5054 0003")
 
 
@@ -53,14 +53,14 @@ def answers(begin, path, pieces, count):
 
 
 def hold(name, begin, path, sent, wanted):
-    """Checks what a stream is answered, sent in one piece and parted at each place."""
+    """Checks the answers to a stream that is sent in one piece, and in two, split at each place."""
     check(name, wanted.hex(" ", 4), answers(begin, path, [sent], len(wanted)).hex(" ", 4))
-    if len(sent) < MOST_PARTED:
+    if len(sent) < MOST_SPLIT:
         wrong = [place for place in range(1, len(sent)) if answers(begin, path, [sent[:place], sent[place:]], len(wanted)) != wanted]
-        check(f"{name}: parted, where other bytes are written", [], wrong[:9])
+        check(f"{name}: split, where the answers differ", [], wrong[:9])
 
 
-# A WRITE of block 0 in an image of 16 blocks, all bytes 'A', stands before each of these. Each leaves an image that answers it alike again.
+# Before each of these comes a WRITE of block 0, all bytes 'A', in an image of 16 blocks. Each can be sent again with the same answers.
 FIRST = request(WRITE, 1, 0, BLOCK) + b"A" * BLOCK
 
 REQUESTS = [
@@ -78,7 +78,7 @@ REQUESTS = [
     ("a read of one byte more", request(READ, 16, 65535, 2),
      of("668e33ef 0001 8001 0000000000000010 00000006 00000016 0000")),
     ("a write of one byte more", request(WRITE, 17, 65535, 2) + b"xy", reply(17, 28)),
-    ("zeroes of a block, and states from a byte before to a byte behind", request(ZEROES, 18, BLOCK, BLOCK, NO_HOLE) + request(STATUS, 19, 4095, 4098),
+    ("zeroes of a block, and states from a byte before to a byte after", request(ZEROES, 18, BLOCK, BLOCK, NO_HOLE) + request(STATUS, 19, 4095, 4098),
      of(reply(18), "668e33ef 0001 0005 0000000000000013 0000001c 00000001 00000001 00000000 00001000 00000002 00000001 00000003")),
     ("the state of a range inside a block", request(STATUS, 20, 4097, 10),
      of("668e33ef 0001 0005 0000000000000014 0000000c 00000001 0000000a 00000003")),
@@ -110,7 +110,7 @@ EXPORT = "0000000000010000 016d"
 BEGINNINGS = [
     ("the name of the export, without zeroes", of("00000003", EXPORT_NAME), of(GREETING, EXPORT)),
     ("the name of the export, with zeroes", of("00000001", EXPORT_NAME), of(GREETING, EXPORT, bytes(124))),
-    ("the name behind structured replies", of("00000003 49484156454f5054 00000008 00000000", EXPORT_NAME),
+    ("the name after structured replies", of("00000003 49484156454f5054 00000008 00000000", EXPORT_NAME),
      of(GREETING, "0003e889045565a9 00000008 00000001 00000000", "0000000000010000 01ed")),
     ("the name of another export", of("00000003 49484156454f5054 00000001 00000001 61"), GREETING),
     ("a GO that asks for nothing, and a read of a byte",
@@ -169,7 +169,7 @@ def by_turns(folder):
         check("a read of 1 MiB from byte 1 on", True, found == wanted or (len(wanted), len(found)))
 
 
-# Each type, with the flags that it may have beside FUA, and what its success is answered: of a block that is a hole where it is read.
+# Each type, with the flags that it may have besides FUA, and the answer if it succeeds; what is read is a hole.
 TYPES = [
     (READ, DF, f"668e33ef 0001 0002 %016x 0000000c {15 * BLOCK:016x} 00001000"),
     (WRITE, 0, "67446698 00000000 %016x"),
@@ -193,7 +193,7 @@ def flags(folder):
                 place = (0, 0) if kind == FLUSH else ((15 if kind in (READ, STATUS) else 1) * BLOCK, BLOCK)
                 sent += request(kind, cookie, *place, flag) + b"A" * (BLOCK * (kind == WRITE))
                 if allowed is not None and flag & (FUA | allowed):
-                    # (with DF a hole is shown by its bytes)
+                    # (with DF the reply has the bytes of a hole)
                     wanted += of(f"668e33ef 0001 0001 {cookie:016x} 00001008 {15 * BLOCK:016x}", bytes(BLOCK)) if flag == DF else of(done % cookie)
                 else:
                     wanted += of(f"668e33ef 0001 8001 {cookie:016x} 00000006 00000016 0000") if kind in (READ, STATUS) else reply(cookie, 22)
@@ -203,7 +203,7 @@ def flags(folder):
 
 
 def lengths(folder):
-    """WRITEs that are taken, thrown away and not read, their heads cut in two, and another magic number behind a request."""
+    """WRITEs that are accepted, dropped and not read, their heads cut in two, and a wrong magic number after a request."""
     with served(folder, "lengths", 2050) as path:
         for length, error in ((0, 22), (1, 0), (BLOCK, 0), (MIB, 0), (MIB + 1, 22), (32 * MIB, 22)):
             head = request(WRITE, 8, 0, length)
@@ -219,8 +219,7 @@ def lengths(folder):
 
 
 def ordered(folder):
-    """In ordered a FLUSH and FUA are offered and answered Ok, though they make nothing durable: a kill may take all. What the rules refuse they
-    refuse there too."""
+    """In ordered a FLUSH and FUA are answered Ok, though they make nothing durable. Invalid requests are refused as in other modes."""
     with served(folder, "ordered", 16, "--cache", "ordered", "--flush-interval", "0") as path:
         sent = FIRST + request(WRITE, 2, BLOCK, 4, FUA) + b"BBBB" + request(FLUSH, 3) + request(FLUSH, 4, 1, 0) + request(TRIM, 5, 0, BLOCK, FUA)
         hold("requests in ordered", shaken, path, sent, reply(1) + reply(2) + reply(3) + reply(4, 22) + reply(5))

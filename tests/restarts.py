@@ -1,11 +1,10 @@
 #!/usr/bin/env python3
-"""400 restarts of `serve` over one image of each layout, by the built program NBDJ: each server is killed (SIGKILL) while it opens the image, while a client
-that has read all of it waits, or amid a client's writes.
+"""400 restarts of `serve` of the built program NBDJ over one image of each layout. Each server is killed (SIGKILL) while it opens the image,
+while its client is idle, or while its client writes.
 
-What a client reads of the whole image before a kill without load is, byte for byte, what it reads after the restart. After a kill under load
-it is the image after some first commands of those that the client sent, all that a FLUSH confirmed among them; about half of them are of
-whole blocks, and the others of any bytes. The bytes of both header slots are kept at each step, and printed with a difference. Prints a line
-for each check that fails, and last 'N passed, M failed'.
+After a kill without load the image is, byte for byte, what the client read before. After a kill under load it is the image after a prefix of
+the client's commands, and the prefix has every confirmed one. About half of the commands are of whole blocks, the others of any bytes. If the
+image is wrong, the last bytes of both header slots are printed. Prints a line for each check that fails, and last 'N passed, M failed'.
 """
 import contextlib
 import os
@@ -22,7 +21,7 @@ import checks
 from checks import BLOCK, FLUSH, NO_HOLE, READ, TRIM, WRITE, ZEROES, check, connected, format_image, listening, reply, request, serve, shake, take_all
 
 BLOCKS = 256
-# The bytes of `--area` by the layout, in both of which each area of the journal has 2 MiB.
+# `--area` by layout; each journal area has 2 MiB in both.
 AREAS = {1: 2097152, 2: 4194304}
 RESTARTS, SECONDS = 400, 90
 SEED = int(os.environ.get("RESTARTS_SEED", "41"))
@@ -37,7 +36,7 @@ class Client:
         self.cookie = 0
 
     def ask(self, kind, offset=0, length=0, data=b"", flags=0):
-        """The data of a READ, or nothing; another reply than Ok ends the run."""
+        """The data of a READ, or nothing; a ValueError if the reply isn't Ok."""
         self.cookie += 1
         self.socket.sendall(request(kind, self.cookie, offset, length, flags) + data)
         answer = take_all(self.socket, 16)
@@ -53,8 +52,7 @@ class Client:
 
 
 class Load:
-    """Commands of one client, in the order in which they were sent: each the byte that it begins with and the bytes that it leaves there. How
-    many of them a FLUSH has confirmed."""
+    """The commands of one client in their order, each as an offset and the bytes that it leaves there, and how many a FLUSH has confirmed."""
 
     numbers = 0
 
@@ -71,7 +69,7 @@ class Load:
             Load.numbers += 1
             data = b"".join(struct.pack(">II", Load.numbers, place) for place in range(offset // 8, (offset + length) // 8 + 1))[offset % 8:][:length]
         if kind == TRIM:
-            # (a trim has its whole blocks alone)
+            # (a TRIM zeroes whole blocks only)
             first, end = (offset + BLOCK - 1) // BLOCK, (offset + length) // BLOCK
             self.sent.append((first * BLOCK, bytes(max(end - first, 0) * BLOCK)))
         else:
@@ -79,7 +77,7 @@ class Load:
         client.ask(kind, offset, length, data if kind == WRITE else b"", source.choice((0, NO_HOLE)) if kind == ZEROES else 0)
 
     def run(self, client, source):
-        """Commands without end, and a FLUSH now and then; the connection's end is the only way out."""
+        """Sends commands, and a FLUSH now and then, until the connection ends."""
         with contextlib.suppress(OSError):
             while True:
                 for _ in range(source.randrange(1, 12)):
@@ -89,7 +87,7 @@ class Load:
                 self.confirmed = count
 
     def leaves(self, image):
-        """The image after each count of first commands that may stand: those that are confirmed, and one more each time."""
+        """The images that a kill may leave, each with its number of commands: from the confirmed ones on, one more each time."""
         image = bytearray(image)
         for count in range(len(self.sent) + 1):
             if count >= self.confirmed:
@@ -118,7 +116,7 @@ class Restarts:
             self.slots = self.slots[-4:] + [[file.read(40).hex(), (file.seek(BLOCK), file.read(40).hex())[1]]]
 
     def told(self, name):
-        """A failure is told with the last header slots."""
+        """Prints the last header slots, for a failure."""
         for one, other in self.slots:
             print(f"{name}: slots {one} {other}", flush=True)
 
@@ -158,7 +156,7 @@ def run(folder, layout):
             restarts.told(f"layout {layout}, restart {number}")
             check(f"layout {layout}, restart {number}: the image after {load.confirmed} to {len(load.sent)} commands", "none", f"blocks {differing(near, found)}")
             return ways
-        check(f"layout {layout}, restart {number}: the image is one that may stand", True, load.confirmed <= stands <= len(load.sent))
+        check(f"layout {layout}, restart {number}: the image is one that a kill may leave", True, load.confirmed <= stands <= len(load.sent))
         known, load = found, Load()
         if way == "load":
             worker = threading.Thread(target=load.run, args=(client, random.Random(source.random())))

@@ -1,6 +1,6 @@
 #!/usr/bin/env python3
-"""What `serve --status` of the built program NBDJ tells: the figures after a load that is known, while a sync takes long, after a fault of
-the device, and to clients that send what is no request; and how `nbdj status` prints them.
+"""The figures of `serve --status` of the built program NBDJ: after a known load, during a slow sync, after a device fault, and for clients
+that send no valid request; and how `nbdj status` prints them.
 
 Prints a line for each check that fails, and last 'N passed, M failed'. The bytes of a command in the journal are those of docs/FORMATS.md: 13
 and its data, and 17 for each group.
@@ -33,7 +33,7 @@ ROUNDS = 10_000
 
 
 def ask(path, method="GET", target="/status", version="HTTP/1.1", seconds=20):
-    """The status line, the fields and the body that the socket at a path answers."""
+    """The status line, the fields and the body of the answer from the socket at a path."""
     return answered(path, f"{method} {target} {version}\r\nHost: x\r\n\r\n".encode(), seconds)
 
 
@@ -63,7 +63,7 @@ def samples(path):
 
 @contextlib.contextmanager
 def told(folder, name, *words, **settings):
-    """A server with a status socket, and the path of that."""
+    """A server with a status socket, and the path of that socket."""
     path = os.path.join(folder, f"{name}.status")
     with Server(folder, name, 2, "--status", path, *words, **settings) as server:
         yield server, path
@@ -111,7 +111,7 @@ AFTER = {
 
 
 def known(folder):
-    """A load that is known, before and after a FLUSH."""
+    """A known load, before and after a FLUSH."""
     with told(folder, "known", "--flush-interval", "0", "--until-eof", stdin=subprocess.PIPE) as (server, path):
         check("known: the mode of the socket", 0o600, stat.S_IMODE(os.stat(path).st_mode))
         with server.shaken() as client:
@@ -134,7 +134,7 @@ def known(folder):
             client.sendall(request(DISC, 12))
             take(client, 1)
         check("known: a client that left", True, waited(lambda: figures(path)["clients"] == 0))
-        check("known: the image that is told", server.image, figures(path)["image"])
+        check("known: the name of the image", server.image, figures(path)["image"])
         check_printed(path)
         server.process.stdin.close()
         check("known: the end", 0, server.process.wait(timeout=20))
@@ -142,7 +142,7 @@ def known(folder):
 
 
 def waited(holds, seconds=10):
-    """Whether something comes to hold within some seconds."""
+    """Whether a condition holds within some seconds."""
     late = time.monotonic() + seconds
     while not holds():
         if time.monotonic() > late:
@@ -167,7 +167,7 @@ def check_latencies(after):
 
 
 def check_metrics(path):
-    """/metrics tells the same figures, in the format of Prometheus."""
+    """/metrics has the same figures, in the format of Prometheus."""
     line, fields, text = ask(path, target="/metrics")
     check("known: /metrics", "HTTP/1.1 200 OK", line)
     check("known: its type", "text/plain; version=0.0.4; charset=utf-8", fields.get("Content-Type"))
@@ -190,14 +190,14 @@ def check_metrics(path):
         judged = subprocess.run(["promtool", "check", "rules", f"{TOP}/packaging/alerts.yml"], capture_output=True, text=True, timeout=60)
         check("known: promtool on the alerts", (0, ""), (judged.returncode, judged.stderr))
     else:
-        print("promtool isn't installed, so only this script judges the format")
+        print("promtool isn't installed, so only this script checks the format")
 
 
 SAMPLE = re.compile(r'([a-z_]+)(\{[a-z_]+="[^"]*"(?:,[a-z_]+="[^"]*")*\})? (-?[0-9.]+)')
 
 
 def check_format(text):
-    """Each family has a line of HELP and one of TYPE, then its samples, each once; and what the alerts and the dashboard name is there."""
+    """Each family has a line of HELP and one of TYPE, then its samples, each once. The figures that alerts and dashboard use are there."""
     amiss, families, samples_seen, family = [], {}, set(), None
     for line in text.splitlines():
         words = line.split(" ", 3)
@@ -229,7 +229,7 @@ def run(*words):
 
 
 def check_printed(path):
-    """What `nbdj status` prints of them."""
+    """How `nbdj status` prints the figures."""
     status, output, _ = run(path)
     check("printed: the status", 0, status)
     lines = output.splitlines()
@@ -243,13 +243,13 @@ def check_printed(path):
     check("printed: as JSON", (0, wanted, 1), (status, found, output.count("\n")))
     nowhere = path + ".none"
     check("printed: no server there", (1, "", f"nbdj: no figures from {nowhere}\n"), run(nowhere))
-    check("printed: no server there, told", (1, "", f"nbdj: {nowhere}: No such file or directory (os error 2)\nnbdj: no figures from {nowhere}\n"), run(nowhere, "-v"))
+    check("printed: no server there, with -v", (1, "", f"nbdj: {nowhere}: No such file or directory (os error 2)\nnbdj: no figures from {nowhere}\n"), run(nowhere, "-v"))
     check("printed: both forms", 2, run(path, "--json", "--watch")[0])
     check_watched(path)
 
 
 def check_watched(path):
-    """Each second a line, or a screen on a terminal."""
+    """With `--watch` there is a line each second, or a screen on a terminal."""
     with subprocess.Popen([NBDJ, "status", path, "--watch"], stdout=subprocess.PIPE, text=True) as watching:
         lines = [watching.stdout.readline() for _ in range(2)]
         watching.kill()
@@ -268,7 +268,7 @@ def check_watched(path):
 
 
 def requests_of_others(folder):
-    """What isn't a request of one of the three paths."""
+    """Requests that aren't for one of the three paths."""
     with told(folder, "others") as (server, path):
         for name, sent_bytes, wanted in (
             ("another path", b"GET /x HTTP/1.1\r\n\r\n", "404 Not Found"),
@@ -287,7 +287,7 @@ def requests_of_others(folder):
 
 
 def mutated(folder):
-    """Requests with random bytes changed, left out and added, while a client of the device goes on."""
+    """Requests with random bytes changed, removed and added, while another client reads from the export."""
     drawn = random.Random(SEED)
     good = b"GET /metrics HTTP/1.1\r\nHost: x\r\nAccept: */*\r\n\r\n"
     with told(folder, "mutated") as (server, path):
@@ -312,20 +312,20 @@ def mutated(folder):
             answered(path, bytes(bad))
         is_over.set()
         beside.join()
-        check("mutated: a client of the device never waits for a second", True, worst[0] < 1)
+        check("mutated: a client of the export never waits for a second", True, worst[0] < 1)
         check("mutated: a good request", "HTTP/1.1 200 OK", ask(path)[0])
         server.goes_on("after mutated requests")
 
 
 def silent(folder):
-    """As many clients as are answered at a time say nothing: a further one waits, and the device's clients don't."""
+    """Four silent clients occupy the status socket: a fifth one waits, and clients of the export don't."""
     with told(folder, "silent", "--until-eof", stdin=subprocess.PIPE) as (server, path):
         with contextlib.ExitStack() as clients:
             for _ in range(4):
                 clients.enter_context(connected(path))
             began = time.monotonic()
-            server.goes_on("beside silent clients of the status socket")
-            check("silent: the device's clients don't wait", True, time.monotonic() - began < 1.5)
+            server.goes_on("during silent clients of the status socket")
+            check("silent: the export's clients don't wait", True, time.monotonic() - began < 1.5)
             check("silent: a further one is answered", "HTTP/1.1 200 OK", ask(path)[0])
             check("silent: it waits for no more than three seconds", True, time.monotonic() - began < 4.5)
             for _ in range(4):
@@ -335,7 +335,7 @@ def silent(folder):
 
 
 def slow(folder):
-    """While a sync takes five seconds the figures are told at once, with what is pending."""
+    """While a sync takes five seconds, the figures come at once, with what is pending."""
     with told(folder, "slow", "--flush-interval", "0", **slow_device(folder)) as (server, path):
         with server.shaken() as client:
             check("slow: a write", reply(1), write(client, 1, 0, bytes(BLOCK)))
@@ -343,7 +343,7 @@ def slow(folder):
             time.sleep(0.5)
             began = time.monotonic()
             found = figures(path)
-            check("slow: told at once", True, time.monotonic() - began < 1)
+            check("slow: the figures come at once", True, time.monotonic() - began < 1)
             check("slow: what is pending", (1, 13 + BLOCK, 0, 1), (found["pending_commands"], found["pending_bytes"], found["durable_number"], found["accepted_number"]))
             check("slow: its age", True, 400_000 <= found["pending_age_microseconds"] <= 5_000_000)
             check("slow: the flush", reply(2), take(client, 16))
@@ -353,7 +353,7 @@ def slow(folder):
 
 
 def faulty(folder):
-    """After a fault of the device a server that stays still tells its figures."""
+    """After a device fault a server with `--on-fault stay` still gives its figures."""
     with told(folder, "faulty", "--on-fault", "stay", **limited()) as (server, path):
         with server.shaken() as client:
             write(client, 1, 0, bytes(BLOCK))
@@ -364,7 +364,7 @@ def faulty(folder):
 
 
 def stored(folder):
-    """Writes that no client flushes are stored when `nbdj status --store` has returned, and a kill takes only later ones."""
+    """Unflushed writes are stored once `nbdj status --store` has returned, and a kill loses only later ones."""
     with told(folder, "stored", "--flush-interval", "0") as (server, path):
         check("stored: nothing yet", (0, "stored 0\n", ""), run(path, "--store"))
         with server.shaken() as client:
@@ -381,7 +381,7 @@ def stored(folder):
 
 
 def stored_slowly(folder):
-    """While it is stored, which takes two syncs of five seconds, figures are told at once, and a second client is told to come again."""
+    """While `--store` waits for two syncs of five seconds, figures come at once, and a second `--store` gets 409 and tries again."""
     with told(folder, "slowly", "--flush-interval", "0", **slow_device(folder)) as (server, path):
         with server.shaken() as client:
             write(client, 1, 0, bytes(BLOCK))
@@ -398,7 +398,7 @@ def stored_slowly(folder):
 
 
 def stored_by_a_device_that_fails(folder):
-    """Nothing is said to be stored by a device that has failed."""
+    """`--store` fails after a device fault."""
     with told(folder, "unstored", "--on-fault", "stay", "--flush-interval", "0", **limited()) as (server, path):
         with server.shaken() as client:
             write(client, 1, 0, bytes(BLOCK))
@@ -407,12 +407,12 @@ def stored_by_a_device_that_fails(folder):
 
 
 def unopened(folder):
-    """A socket that can't be made."""
+    """A status socket that can't be made."""
     path = os.path.join(folder, "no", "where")
     image = os.path.join(folder, "unopened.img")
     format_image(image, "--size", "4M", "--area", "4M")
     found = checks.run("serve", image, "--unix", os.path.join(folder, "s"), "--status", path)
-    check("unopened: what is told", (1, "", f"nbdj: {path}: No such file or directory (os error 2)\nnbdj: stream fault (21)\n"), found)
+    check("unopened: the messages", (1, "", f"nbdj: {path}: No such file or directory (os error 2)\nnbdj: stream fault (21)\n"), found)
 
 
 SCENARIOS = (known, requests_of_others, mutated, silent, slow, faulty, stored, stored_slowly, stored_by_a_device_that_fails, unopened)

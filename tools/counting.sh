@@ -40,7 +40,7 @@ run_check() {
     fi
     last=$(outcome "$last" "$status")
     # What was counted stands in the line below; the rest is what failed or was skipped.
-    if [ "$status" -eq 0 ]; then grep -E '^(skipped: |not compared: |with --long alone: |of the refusals |[0-9]+ (runs|of) )' "$counting/said"; else cat "$counting/said"; fi
+    if [ "$status" -eq 0 ]; then grep -E '^(skipped: |not compared: |only with --long: |of the refusals |[0-9]+ (runs|of) )' "$counting/said"; else cat "$counting/said"; fi
     forbidden=$(skips_forbidden)
     [ -z "$forbidden" ] || printf 'FAILED: skipped, which CI does not allow:\n%s\n' "$forbidden"
     [ -z "$forbidden" ] || failed=$((failed + $(printf '%s\n' "$forbidden" | wc -l)))
