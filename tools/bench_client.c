@@ -88,7 +88,7 @@ struct connection {
     uint64_t random, next, blocks, answered, number;
     double end, longest;
     double *times; /* of each write and FLUSH, or none are kept */
-    double *taken; /* of each request that was on its way with others, or none are kept */
+    double *taken; /* of each request that was in flight with others, or none are kept */
     struct slot slots[MOST_DEPTH];
 };
 
@@ -111,13 +111,13 @@ static uint64_t any(struct connection *it) {
     return it->random;
 }
 
-/* Data that no server can take for those of another write: the number stands in each block. */
+/* Data that differ from those of every other write: each block has its number. */
 static void mark(struct connection *it, char *data) {
     it->number++;
     for (size_t at = 0; at < length_of(it->kind); at += BLOCK) memcpy(data + at, &it->number, sizeof it->number);
 }
 
-/* How many requests go into the blocks one behind the other. */
+/* How many requests fit into the blocks one after another. */
 static uint64_t places(struct connection *it) { return it->blocks * SECTORS / it->kind->sectors; }
 
 static uint64_t place(struct connection *it) {
@@ -158,7 +158,7 @@ static int goes_on(struct connection *it) {
     return it->kind->is_one_pass ? it->next < places(it) : now() < it->end;
 }
 
-/* Keeps as many requests on their way as the kind says, and waits for the last ones. */
+/* Keeps as many requests in flight as the kind says, and waits for the last ones. */
 static void ask_many(struct connection *it) {
     for (;;) {
         unsigned busy = 0;
@@ -397,7 +397,7 @@ static long resident(pid_t pid) {
     return found * 1024;
 }
 
-/* Whether the server has greeted: the 18 bytes that each server of the protocol begins with. */
+/* Whether the server has sent the 18 bytes of its greeting. */
 static int is_greeted(const char *path) {
     struct sockaddr_un address = {.sun_family = AF_UNIX};
     char greeting[18];
