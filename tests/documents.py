@@ -132,8 +132,10 @@ def man_of(page, command):
     part = re.split(r"\n\.S[SH] ", page.partition(f"\n.SS nbdj {command}\n")[2])[0]
     texts, *tagged = part.split("\n.TP\n")
     about, _, note = texts.partition("\n.PP\n")
+    # The options of every command stand in a section of their own. Like the help's, -h and -V are left out.
+    common = page.partition("\n.SH OPTIONS\n")[2].partition("\n.SH ")[0].split("\n.TP\n")[1:]
     rows = {}
-    for item in tagged:
+    for item in tagged + [it for it in common if not re.match(r"\.BR -[hV] ", it)]:
         head, text, *more = item.splitlines()
         tag = re.sub(r'^\.BI (--[a-z-]+) " (\w+)"$', r"\1 <\2>", re.sub(r"^\.I (\w+)$", r"<\1>", head))
         tag = re.sub(r'^\.BR? (?:-v ", " )?(--[a-z-]+)$', r"\1", tag)
