@@ -525,8 +525,8 @@ killed 'after a port in use'
 serves unix
 refused 'a socket in use' 1 'nbdj: socket: Address already in use (os error 98)|nbdj: stream fault (21)' other.img --unix socket
 : >file
-refused 'a socket where a file is' 1 'nbdj: file: Address already in use (os error 98)|nbdj: stream fault (21)' other.img --unix file
-is 'the file where a socket was wanted' yes "$([ -f file ] && echo yes)"
+refused 'a file in place of the socket' 1 'nbdj: file: Address already in use (os error 98)|nbdj: stream fault (21)' other.img --unix file
+is 'the file in place of the socket' yes "$([ -f file ] && echo yes)"
 refused 'a socket in no folder' 1 'nbdj: none/socket: No such file or directory (os error 2)|nbdj: stream fault (21)' other.img --unix none/socket
 if has nbdinfo; then
     is 'the server of the socket in use' 67108864 "$(timeout 20 nbdinfo --size "$uri" 2>&1)"

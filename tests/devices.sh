@@ -216,7 +216,7 @@ on_full_disks() {
     "$NBDJ" format small/d.img --size 64M --area 2M >/dev/null
     is 'nbdj-server warns of too little space' 'nbdj-server: small/d.img may need 64 MiB more, and its file system has N MiB free|listening' "$(served small/d.img | paste -s -d '|')"
     "$NBDJ" format small/e.img --size 1M --area 2M >/dev/null
-    is 'nbdj-server where there is space' listening "$(served small/e.img)"
+    is 'nbdj-server with enough space' listening "$(served small/e.img)"
     rm small/e.img
     dd if=/dev/zero of=small/rest bs=64K 2>/dev/null
     {

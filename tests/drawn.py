@@ -92,9 +92,9 @@ class Script:
 
     def drawn_bytes(self):
         """Bytes of a few blocks, which often begin or end at a border of blocks, or next to one."""
-        first, behind = self.drawn_blocks()
+        first, end = self.drawn_blocks()
         start = BLOCK * first + min(place_in_block(self.draws), BLOCK - 1)
-        return start, max(BLOCK * (behind - 1) + place_in_block(self.draws), start + 1)
+        return start, max(BLOCK * (end - 1) + place_in_block(self.draws), start + 1)
 
     def write(self, start, end, byte):
         self.image.fill(start, end, byte)
@@ -146,14 +146,14 @@ class Script:
         (self.answered_stored if fua else self.answered)(connection)
 
     def put(self, connection):
-        first, behind = self.drawn_blocks()
+        first, end = self.drawn_blocks()
         byte = self.draws.randrange(256)
-        self.command(connection, f"put {first} {behind - first} {byte:02x}", self.write, first * BLOCK, behind * BLOCK, byte)
+        self.command(connection, f"put {first} {end - first} {byte:02x}", self.write, first * BLOCK, end * BLOCK, byte)
 
     def clear(self, connection):
-        first, behind = self.drawn_blocks()
+        first, end = self.drawn_blocks()
         kind, state = self.draws.choice([("zero", ZERO), ("hole", HOLE)])
-        self.command(connection, f"clear {kind} {first} {behind - first}", self.zero, first * BLOCK, behind * BLOCK, state)
+        self.command(connection, f"clear {kind} {first} {end - first}", self.zero, first * BLOCK, end * BLOCK, state)
 
     def put_bytes(self, connection):
         start, end = self.drawn_bytes()
@@ -174,9 +174,9 @@ class Script:
         self.answered_stored(connection)
 
     def read(self, connection):
-        first, behind = self.drawn_blocks()
-        self.ask(connection, f"read {first} {behind - first}")
-        self.printed.append(f"answer {connection} bytes" + "".join(f" {self.image.first_byte(it):02x}" for it in range(first, behind)))
+        first, end = self.drawn_blocks()
+        self.ask(connection, f"read {first} {end - first}")
+        self.printed.append(f"answer {connection} bytes" + "".join(f" {self.image.first_byte(it):02x}" for it in range(first, end)))
 
     def status(self, connection):
         first, _ = self.drawn_blocks()

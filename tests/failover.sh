@@ -216,7 +216,7 @@ cut_off_while_idle() {
     exec 9>&-
     client a 8 --base 2000 --seed 2 --patience 20 & own=$!
     sleep 7
-    say "both servers are killed, and one starts anew"
+    say "both servers are killed, and one starts again"
     for host in a b; do kill_in "$host" "$(basename "$NBDJ")"; done
     wait $cl $own
     by_d read

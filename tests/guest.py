@@ -258,19 +258,19 @@ class Load:
         self.guest, self.name, self.lines = guest, name, f"/root/{name}.lines"
         guest.asked(name, f"rm -f /root/{name}.over; : >{self.lines}; systemd-run --unit={name} --property=RemainAfterExit=yes /bin/sh -c \"exec {client} 0 --until /root/{name}.over --timeout 60 >{self.lines} 2>&1\"")
 
-    def connected_anew(self):
+    def reconnects(self):
         return int(self.guest.run(f"grep -c 'goes on' {self.lines}")[1])
 
     def goes_on(self, way, command):
         """Runs a command under the load; the client has to have reconnected after it."""
-        before = self.connected_anew()
+        before = self.reconnects()
         time.sleep(8)
         self.guest.asked(self.name, command)
         for _ in range(90):
             time.sleep(1)
-            if self.connected_anew() > before:
+            if self.reconnects() > before:
                 break
-        check(f"{self.name}: {way}: the client goes on", True, self.connected_anew() > before)
+        check(f"{self.name}: {way}: the client goes on", True, self.reconnects() > before)
 
     def ends(self):
         self.guest.asked(self.name, f"touch /root/{self.name}.over; while systemctl show -p SubState {self.name} | grep -q running; do sleep 1; done", 180)
@@ -366,7 +366,7 @@ def power(machines):
         # (another device, because the one before may still be in use)
         peer.asked(name, f"{attach}{number} && mount /dev/nbd{number} /mnt/n")
         found = peer.asked(name, "python3 /usr/local/lib/records.py read /mnt/n/records")
-        told.append(f"{confirmed} records confirmed, {found.split()[0]} found, booted anew in {took:.0f} s")
+        told.append(f"{confirmed} records confirmed, {found.split()[0]} found, booted again in {took:.0f} s")
         check(f"{name}: what was confirmed is there", True, int(found.split()[0]) >= confirmed)
     peer.asked("power", "umount /mnt/n && e2fsck -f -n /dev/nbd2; s=$?; nbd-client -d /dev/nbd2; exit $s")
 

@@ -392,7 +392,7 @@ class Prefixes:
             most = min(most, of_block[place] - 1 if place < len(of_block) else sent)
         least = max(answered, self.least, *numbers)
         if most < least:
-            self.amiss.append(f"at most the first {most} writes at block {first}, where {answered} are answered, {self.least} were shown, and {max(numbers)} is there")
+            self.amiss.append(f"block {first}: at most the first {most} writes are shown, but {answered} were answered, {self.least} shown before, and {max(numbers)} is there")
         self.least = max(self.least, *numbers)
         self.reads += 1
 
@@ -769,7 +769,7 @@ def silent_handshakes(folder):
                 time.sleep(1.2)
             # (without the rule it would be 30 seconds)
             with server.shaken(15) as client:
-                check(f"{way}: a client beside silent ones", True, write(client, 1, BLOCK))
+                check(f"{way}: a client while others are silent", True, write(client, 1, BLOCK))
                 check(f"{way}: one of them gave up its worker", [False, True], sorted(map(is_open, silent)))
                 client.sendall(request(DISC, 9))
                 check(f"{way}: the end of its session", b"", take(client, 1))

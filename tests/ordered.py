@@ -152,7 +152,7 @@ def main():
     words = argparse.ArgumentParser(usage=__doc__.split("\n")[2].removeprefix("usage: "))
     words.add_argument("--cuts", type=int, default=3, help="cuts of each server; by default 3")
     words.add_argument("--seed", type=int, default=1)
-    words.add_argument("--only", choices=("ordered", "writeback", "nbdkit"), help="this server alone; by default all three")
+    words.add_argument("--only", choices=("ordered", "writeback", "nbdkit"), help="only this server; by default all three")
     words.add_argument("--keep", action="store_true", help="keeps the folder with the last images")
     asked = words.parse_args()
     missing = [it for it in NEEDED if not shutil.which(it, path=ENVIRONMENT["PATH"])]

@@ -94,7 +94,7 @@ done
 refused 'a value of until-eof' serve new.img --listen 127.0.0.1:0 --until-eof=yes
 refused 'an empty path of a socket' serve new.img --unix ''
 run serve new.img
-is 'what is said where no address is' "2|error: one of --listen <ADDR> and --unix <SOCKET> is wanted" "$status|$(head -n 1 errors)"
+is 'the message without an address' "2|error: one of --listen <ADDR> and --unix <SOCKET> is wanted" "$status|$(head -n 1 errors)"
 refused 'sessions past 64 bits' serve new.img --listen 127.0.0.1:0 --sessions 18446744073709551616
 refused 'unknown cache mode of a server' serve new.img --listen 127.0.0.1:0 --cache unsafe
 refused 'too few bytes that may be lost' serve new.img --listen 127.0.0.1:0 --loss-bytes 2097151
@@ -232,7 +232,7 @@ reason 'a file that has grown' 1 'nbdj: d.img: 1,234,567 bytes longer than its h
 fresh 16 2097152
 reason 'an address of another machine' 1 'nbdj: 192.0.2.1:0: Cannot assign requested address (os error 99)' 'nbdj: stream fault (21)' serve d.img --listen 192.0.2.1:0
 reason 'a socket in a folder that is missing' 1 'nbdj: none/d.sock: No such file or directory (os error 2)' 'nbdj: stream fault (21)' serve d.img --unix none/d.sock
-reason 'a socket where a file is' 1 'nbdj: d.img: Address already in use (os error 98)' 'nbdj: stream fault (21)' serve d.img --unix d.img
+reason 'a file in place of the socket' 1 'nbdj: d.img: Address already in use (os error 98)' 'nbdj: stream fault (21)' serve d.img --unix d.img
 long=$(printf '%0120d' 0)
 reason 'a path of a socket that is too long' 1 "nbdj: $long: path must be shorter than SUN_LEN" 'nbdj: stream fault (21)' serve d.img --unix "$long"
 # (also on a terminal)
@@ -386,7 +386,7 @@ timeout 60 "$NBDJ" pipe d.img <requests >replies &
 serving=$!
 exec 3>requests 4<replies
 { request 0001 1 7 0 4096; filled 4096 G; } >&3
-is 'a reply of who holds the file' "$(reply 7 0)" "$(head -c 16 <&4 | hex)"
+is 'a reply of the pipe that has the file' "$(reply 7 0)" "$(head -c 16 <&4 | hex)"
 cp d.img before.img
 for command in 'pipe d.img' 'recover d.img' 'check d.img' 'format d.img --blocks 16 --area 2097152' 'format d.img --size 1G'; do
     ends "$command of a file in use" 4 '' 'nbdj: d.img is in use' $command
@@ -397,7 +397,7 @@ ends 'a link to a file in use' 4 '' 'nbdj: link.img is in use' check link.img
 { request 0001 1 8 4096 4096; filled 4096 H; request 0000 2 9 0 0; } >&3
 exec 3>&-
 wait $serving
-is 'the end of who held the file' 0 $?
+is 'the end of the pipe that had the file' 0 $?
 exec 4<&-
 rm -f requests replies link.img
 ends 'the file that was in use' 0 "$(text 'commands 2')" '' recover d.img
@@ -469,7 +469,7 @@ for row in 'no edges|04000000000000000000000002 00|0' 'edges 4|04000000000000000
     'edges of no block|04000000000000000000000000 01|4096' 'a put of no block|01000000000000000000000000|0' \
     'a clear to zero of no block|03000000000000000000000000|0' 'a trim of no block after the end|02000000000000001100000000|0' \
     'an edge of 2,048 bytes|04000000000000000000000002 01|2048' 'edges past the image|04000000000000000f00000002 01|4096' \
-    'a tail where the body ends|05000000000000000e00000002 03|4096'; do
+    'a tail after the end of the body|05000000000000000e00000002 03|4096'; do
     command=${row#*|}
     grouped "$(printf '%s' "${command%|*}" | tr -d ' ')" "${row##*|}"
     unchanged "${row%%|*}" 'nbdj: damaged group (12)'
@@ -477,7 +477,7 @@ done
 # (a row ends with the numbers of data blocks, zero blocks and holes after it)
 for row in 'a trim of no block|02000000000000000f00000000|0|0 0 16' 'a trim of no block at the end|02000000000000001000000000|0|0 0 16' \
     'a clear to zero with a head and a tail|05000000000000000d00000003 03|8192|2 1 13' \
-    'a clear with two edges alone|05000000000000000e00000002 03|8192|2 0 14' 'a clear with a tail|04000000000000000e00000002 02|4096|1 0 15' \
+    'a clear of only two edges|05000000000000000e00000002 03|8192|2 0 14' 'a clear with a tail|04000000000000000e00000002 02|4096|1 0 15' \
     'a clear of one block that is its head|05000000000000000f00000001 01|4096|1 0 15'; do
     command=${row#*|}
     count=${command#*|}

@@ -301,8 +301,8 @@ def mutated(folder):
                     take(client, BLOCK)
                     worst[0] = max(worst[0], time.monotonic() - began)
 
-        beside = threading.Thread(target=go_on)
-        beside.start()
+        reader = threading.Thread(target=go_on)
+        reader.start()
         for _ in range(ROUNDS):
             bad = bytearray(good)
             for _ in range(drawn.randrange(1, 6)):
@@ -311,7 +311,7 @@ def mutated(folder):
                 bad = bad or bytearray(b"x")
             answered(path, bytes(bad))
         is_over.set()
-        beside.join()
+        reader.join()
         check("mutated: a client of the export never waits for a second", True, worst[0] < 1)
         check("mutated: a good request", "HTTP/1.1 200 OK", ask(path)[0])
         server.goes_on("after mutated requests")

@@ -1,33 +1,32 @@
-/* A client over libnbd that measures a server; tools/bench.sh runs it.
+/* A client over libnbd that measures a server; tools/bench.sh runs it. Times are in microseconds, rates in answers a second, and blocks have
+ * 4,096 bytes; requests go to the first BLOCKS blocks.
  *
  * bench_client run URI KIND CONNECTIONS SECONDS BLOCKS
- *     Sends requests over so many connections, a thread for each, for so many seconds, to the first so many blocks of 4,096 bytes, and
- *     prints how many were answered a second; requests of 1 MiB are counted in MiB. Kinds:
- *         write      4 KiB at random places, 16 on their way on each connection
- *         flushed    4 KiB at random places, each followed by a FLUSH, which is waited for
- *         fua        4 KiB at random places with FUA, each waited for
- *         sequential all blocks once, 1 MiB one behind the other, 4 on their way, and a FLUSH at the end, which counts: however long
- *         read       4 KiB at random places, 16 on their way
- *         read-long  1 MiB one behind the other, 4 on their way
- *         read-64k 64 KiB one behind the other, 4 on their way
- *         mixed      4 KiB at random places, 7 of 10 read and the others written, 16 on their way
- *         write-512  512 bytes at random places, 16 on their way
+ *     Sends requests over CONNECTIONS connections, each with a thread, for SECONDS seconds, and prints their rate; requests of 1 MiB are counted in
+ *     MiB. Kinds:
+ *         write      4 KiB at random places, 16 in flight on each connection
+ *         flushed    4 KiB at random places, each followed by a FLUSH, one after another
+ *         fua        4 KiB at random places with FUA, one after another
+ *         sequential all blocks once in order, 1 MiB at a time, 4 in flight, and a FLUSH at the end, which counts: however long it takes
+ *         read       4 KiB at random places, 16 in flight
+ *         read-long  1 MiB at a time in order, 4 in flight
+ *         read-64k   64 KiB at a time in order, 4 in flight
+ *         mixed      4 KiB at random places, 7 of 10 read and the others written, 16 in flight
+ *         write-512  512 bytes at random places, 16 in flight
  *         read-512   the same, read
  * bench_client fill URI BLOCKS [PIECE]
- *     Writes those blocks, PIECE at a time (256 unless given), and a FLUSH.
+ *     Writes these blocks, PIECE at a time (256 unless given), and flushes.
  * bench_client beside URI LENGTH FLUSHERS SECONDS BLOCKS
- *     Sends READs of so many bytes, at random places in the first so many blocks, one after another, while as many connections as
- *     FLUSHERS says write and flush as `flushed` does. Prints how many READs were answered a second, the median of their times, the
- *     99th of a hundred and the longest, in microseconds, and how many FLUSHes were answered a second.
+ *     Sends READs of LENGTH bytes at random places, one after another, while FLUSHERS connections write and flush as `flushed` does. Prints the rate
+ *     of READs, the median, 99th percentile and longest of their times, and the rate of FLUSHes.
  * bench_client stall URI SECONDS BLOCKS
- *     4 connections write as `write` does, one writes and flushes as `flushed` does, and one reads 4 KiB, one after another. Prints how many
- *     WRITEs were answered a second, the longest of them, the 99th of a hundred of a write and FLUSH, and of a READ, in microseconds.
+ *     4 connections write as `write` does, one writes and flushes as `flushed` does, and one reads 4 KiB, one after another. Prints the rate of
+ *     WRITEs, the longest time of one, and the 99th percentiles of a write with FLUSH and of a READ.
  * bench_client waits URI SECONDS BLOCKS
- *     4 connections write as `write` does, and one writes and flushes as `flushed` does. Prints how many WRITEs were answered a second, and
- *     of them, and then of a write and FLUSH, the median, the 99th of a hundred, the 999th of a thousand and the longest, in microseconds.
+ *     4 connections write as `write` does, and one writes and flushes as `flushed` does. Prints the rate of WRITEs, and then of WRITEs and of writes
+ *     with FLUSH the median, the 99th percentile, the 999th of a thousand and the longest.
  * bench_client start SOCKET COMMAND...
- *     Runs the server of a Unix socket, and prints after how many milliseconds it greeted a client, and how many bytes were resident
- *     then; kills it.
+ *     Runs the server of a Unix socket, prints after how many milliseconds it greeted a client and how many bytes were resident then, and kills it.
  */
 #include <errno.h>
 #include <libnbd.h>
