@@ -83,13 +83,13 @@ def serve(image, *words, program=(NBDJ, "serve"), **settings):
     return subprocess.Popen([*program, image, *words], **settings)
 
 
-def listening(server):
+def read_address(server):
     """Waits for the next line `listening ADDRESS`; the address, or nothing if the server says something else or ends."""
     word, _, address = server.stdout.readline().rstrip("\n").partition(" ")
     return address if word == "listening" else ""
 
 
-def preloaded(folder, name):
+def build_preload(folder, name):
     """The library that is made of tests/preloads/NAME.c, to be preloaded."""
     library = os.path.join(folder, f"{name}.so")
     if not os.path.exists(library):
@@ -98,9 +98,9 @@ def preloaded(folder, name):
     return library
 
 
-def preload(folder, name, **variables):
+def preload_settings(folder, name, **variables):
     """The settings of a process that has this library preloaded, and these variables besides."""
-    return {"env": {**os.environ, **variables, "LD_PRELOAD": preloaded(folder, name)}}
+    return {"env": {**os.environ, **variables, "LD_PRELOAD": build_preload(folder, name)}}
 
 
 # The protocol.
@@ -140,7 +140,7 @@ def block_of(number):
     return b"".join(struct.pack(">II", number, place) for place in range(BLOCK // 8))
 
 
-def connected(path, seconds=20):
+def connect(path, seconds=20):
     """A client at a Unix socket."""
     client = socket.socket(socket.AF_UNIX)
     client.settimeout(seconds)
@@ -177,7 +177,7 @@ def shake(client, handshake=HANDSHAKE):
         answered = number, kind
 
 
-def dropped(client):
+def reset(client):
     """Closes with a reset, so that the server's next write fails."""
     client.setsockopt(socket.SOL_SOCKET, socket.SO_LINGER, struct.pack("ii", 1, 0))
     client.close()
@@ -207,7 +207,7 @@ class Server:
             format_image(self.image, "--blocks", str(BLOCKS), "--area", "2097152")
         words = ["--listen", "127.0.0.1:0", "--frames", str(FRAMES), "--workers", str(workers), *words]
         self.process = serve(self.image, *words, program=program, **{"stderr": subprocess.PIPE, **settings})
-        port = listening(self.process)
+        port = read_address(self.process)
         check(f"{name}: it listens", True, port != "")
         self.port = int(port)
         self.writes = 0
@@ -229,7 +229,7 @@ class Server:
             self.process.kill()
         self.process.wait(timeout=60)
 
-    def told(self, count):
+    def read_log(self, count):
         """The next lines of its standard error; what there is of them once 20 seconds are over, when it is killed."""
         late = threading.Timer(20, self.process.kill)
         late.start()
@@ -242,7 +242,7 @@ class Server:
         client.setsockopt(socket.IPPROTO_TCP, socket.TCP_NODELAY, 1)
         return client
 
-    def shaken(self, seconds=20):
+    def new_client(self, seconds=20):
         """A client whose handshake is over, with simple replies."""
         client = self.connect(seconds)
         client.sendall(HANDSHAKE)
@@ -276,7 +276,7 @@ class Server:
         self.writes += 1
         offset, data = self.writes % BLOCKS * BLOCK, block_of(self.writes)
         try:
-            with self.shaken(seconds) as client:
+            with self.new_client(seconds) as client:
                 client.sendall(request(WRITE, 1, offset, BLOCK) + data + request(FLUSH, 2) + request(READ, 3, offset, BLOCK))
                 wanted = reply(1) + reply(2) + reply(3) + data
                 found = take(client, len(wanted))
@@ -288,13 +288,13 @@ class Server:
 
 
 @contextlib.contextmanager
-def served(folder, name, blocks, *words):
+def serve_new(folder, name, blocks, *words):
     """The path of the Unix socket of a server of a new image."""
     image, path = os.path.join(folder, f"{name}.img"), os.path.join(folder, f"{name}.sock")
     format_image(image, "--blocks", str(blocks), "--area", "2097152")
     with serve(image, "--unix", path, *words) as server:
         try:
-            check(f"{name}: it listens", path, listening(server))
+            check(f"{name}: it listens", path, read_address(server))
             yield path
             check(f"{name}: it lives", None, server.poll())
         finally:

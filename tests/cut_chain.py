@@ -190,7 +190,7 @@ def unmount_export(folder, process):
         process.wait()
 
 
-def awaited(path, process):
+def await_socket(path, process):
     """Waits for a server's socket."""
     for _ in range(6000):
         if os.path.exists(path):
@@ -216,7 +216,7 @@ class Chain:
             os.unlink(path)
         self.log = open(f"{folder}/server.log", "ab")
         self.server = subprocess.Popen(serve(image, path), env={**ENVIRONMENT, **(environment or {})}, stdin=subprocess.DEVNULL, stdout=self.log, stderr=self.log)
-        awaited(path, self.server)
+        await_socket(path, self.server)
         self.front = mount_export(f"nbd+unix:///?socket={path}", f"{folder}/front")
         self.loop = run(["losetup", "-f", "--show", "--direct-io=on", f"{folder}/front/nbd"]).strip()
         # (a loop device keeps this when it gets another file)
@@ -258,5 +258,5 @@ def isolate(path, words):
         os.execvp("unshare", ["unshare", "-m", "--propagation", "private", "python3", path, *words])
 
 
-def drawn_from(seed, turn):
+def random_from(seed, turn):
     return random.Random(seed * 1000 + turn)

@@ -34,7 +34,7 @@ import tempfile
 import time
 
 import checks
-from checks import BLOCK, FUA, MIB, NO_HOLE, check, connected, format_image, listening, preloaded, reply, serve, shake, take_all
+from checks import BLOCK, FUA, MIB, NO_HOLE, check, connect, format_image, read_address, build_preload, reply, serve, shake, take_all
 from history_checker import FITS, FLUSH, NEVER, READ, UNDECIDED, WRITE, WRONG, Command, confirmed, judge
 
 SECTOR = 512
@@ -290,7 +290,7 @@ class Server:
         source = self.source
         self.is_cut = source.randrange(2)
         slow = source.choice((0, 1000, 4000, 15000))
-        preloads = [preloaded(self.folder, "undo_calls")] * self.is_cut + [preloaded(self.folder, "slow_sync")] * (slow > 0)
+        preloads = [build_preload(self.folder, "undo_calls")] * self.is_cut + [build_preload(self.folder, "slow_sync")] * (slow > 0)
         with contextlib.suppress(FileNotFoundError):
             os.unlink(self.log)
         environment = {**os.environ, "SLOW_SYNC_US": str(slow), "UNDO_IMAGE": self.image, "UNDO_LOG": self.log, "LD_PRELOAD": ":".join(preloads)}
@@ -299,7 +299,7 @@ class Server:
         self.process = serve(self.image, *words, env=environment, stderr=subprocess.PIPE)
 
     def listen(self):
-        port, path = listening(self.process), listening(self.process)
+        port, path = read_address(self.process), read_address(self.process)
         if not port or not path:
             raise ValueError(f"the server doesn't open the image: {self.process.stderr.read()}")
         self.port = int(port)
@@ -317,7 +317,7 @@ class Server:
             client = socket.create_connection(("127.0.0.1", self.port), timeout=SECONDS)
             client.setsockopt(socket.IPPROTO_TCP, socket.TCP_NODELAY, 1)
         else:
-            client = connected(self.path, SECONDS)
+            client = connect(self.path, SECONDS)
         shake(client)
         return client
 
@@ -326,7 +326,7 @@ def request(kind, cookie, offset=0, length=0, flags=0):
     return checks.request(CODES[kind], cookie, offset, length, flags)
 
 
-def asked(client, kind, offset=0, length=0, data=b""):
+def ask(client, kind, offset=0, length=0, data=b""):
     """Sends a request and waits for its answer; the data of a READ."""
     client.sendall(request(kind, 1, offset, length) + data)
     answer = take_all(client, 16)
@@ -491,7 +491,7 @@ def live(server, clients, most, source):
     return [it for it in history if it.kind != READ or it.cells], count, how
 
 
-def opened(server, source):
+def open_image(server, source):
     """Starts the server and reads all blocks that clients write. Sometimes it is killed during the start before, or after the READs."""
     while source.randrange(5) == 0:
         server.launch()
@@ -500,11 +500,11 @@ def opened(server, source):
     server.launch()
     server.listen()
     with server.connect(source.randrange(2)) as client:
-        cells = dict(zip(CELLS, values_of(CELLS, asked(client, "READ", 0, LIVE * BLOCK))))
+        cells = dict(zip(CELLS, values_of(CELLS, ask(client, "READ", 0, LIVE * BLOCK))))
         if source.randrange(4) == 0:
             for first in range(0, FILLER * BLOCK, MIB):
                 length = min(MIB, FILLER * BLOCK - first)
-                if asked(client, "READ", LIVE * BLOCK + first, length) != FILLED[first:first + length]:
+                if ask(client, "READ", LIVE * BLOCK + first, length) != FILLED[first:first + length]:
                     raise ValueError(f"{length} bytes at {LIVE * BLOCK + first} aren't those that were written there at first")
     if source.randrange(3) == 0:
         # (the next server has no block in memory)
@@ -521,7 +521,7 @@ def fill(server):
     with server.connect(0) as client:
         for first in range(0, FILLER * BLOCK, MIB):
             length = min(MIB, FILLER * BLOCK - first)
-            asked(client, "WRITE", LIVE * BLOCK + first, length, FILLED[first:first + length])
+            ask(client, "WRITE", LIVE * BLOCK + first, length, FILLED[first:first + length])
     server.process.communicate(timeout=SECONDS)
 
 
@@ -544,14 +544,14 @@ def run(folder, mode, operations, kills, seed, kept, totals):
     clients = [Client(number, f"{seed} {mode}") for number in range(CLIENTS)]
     try:
         fill(server)
-        opening = opened(server, source)
+        opening = open_image(server, source)
         for life in range(1, kills + 1):
             name = f"{mode}, life {life}"
             history, count, how = live(server, clients, (operations + kills - life) // kills, source)
             operations_of_life = sum(1 for it in history if it.answered < NEVER)
             totals.operations += count
             totals.ends[how.partition(" with")[0]] += 1
-            end = opened(server, source)
+            end = open_image(server, source)
             began = time.monotonic()
             verdict, why = judge(mode, opening, history, end)
             totals.seconds += time.monotonic() - began

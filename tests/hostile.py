@@ -18,7 +18,7 @@ import time
 import checks
 from checks import (
     BLOCK, BLOCKS, DISC, EINVAL, FLAGS, FLUSH, FRAMES, GO, HANDSHAKE, LONG_HANDSHAKE, MIB, READ, SET_CONTEXT, STATUS, STRUCTURED, TRIM, WRITE, ZEROES,
-    Server, block_of, check, dropped, format_image, go, listening, option, reply, request, run, run_scenario, serve, shake, take,
+    Server, block_of, check, reset, format_image, go, read_address, option, reply, request, run, run_scenario, serve, shake, take,
 )
 
 SECONDS, SEED = 10, int(os.environ.get("HOSTILE_SEED", "29"))
@@ -48,7 +48,7 @@ def slow_handshake(folder):
                 check(f"a silence after {count} bytes", 18, len(take(client, 100)))
         server.goes_on("silences during the handshake")
         # After the handshake a client may be silent for longer.
-        with server.shaken() as client:
+        with server.new_client() as client:
             time.sleep(2.5)
             client.sendall(request(FLUSH, 5))
             check("a silence after the handshake", reply(5), take(client, 16))
@@ -58,18 +58,18 @@ def announced(folder):
     """Clients that announce a WRITE of 1 MiB and send a byte of it."""
     with Server(folder, "announced", 16) as server:
         server.goes_on("before the announced WRITEs")
-        clients = [server.shaken() for _ in range(15)]
+        clients = [server.new_client() for _ in range(15)]
         for client in clients:
             client.sendall(request(WRITE, 9, 0, MIB) + b"x")
         time.sleep(0.2)
         server.goes_on("WRITEs that are announced")
         for number, client in enumerate(clients):
             if number % 2:
-                dropped(client)
+                reset(client)
             else:
                 client.close()
         server.goes_on("WRITEs that were announced")
-        with server.shaken() as client:
+        with server.new_client() as client:
             client.sendall(request(READ, 1, 0, BLOCK))
             check("of an announced WRITE nothing is there", reply(1) + bytes(BLOCK), take(client, 16 + BLOCK))
 
@@ -77,11 +77,11 @@ def announced(folder):
 def deaf(folder):
     """Clients that ask for more than their sockets hold and never read. Others are still served, and their workers are free later."""
     with Server(folder, "deaf", 4) as server:
-        with server.shaken() as client:
+        with server.new_client() as client:
             for number in range(4):
                 client.sendall(request(WRITE, number, number * MIB, MIB) + block_of(number) * 256)
             take(client, 4 * 16)
-        clients = [server.shaken() for _ in range(3)]
+        clients = [server.new_client() for _ in range(3)]
         for client in clients:
             client.setblocking(False)
             sent, end = 0, time.monotonic() + 1
@@ -94,9 +94,9 @@ def deaf(folder):
         server.goes_on("clients that read no replies")
         server.goes_on("clients that read no replies, again")
         for client in clients:
-            dropped(client)
+            reset(client)
         server.goes_on("clients that read no replies are gone")
-        others = [server.shaken() for _ in range(3)]
+        others = [server.new_client() for _ in range(3)]
         server.goes_on("their workers")
         for client in others:
             client.close()
@@ -114,22 +114,22 @@ def half_closed(folder):
             check("half-closed in the handshake", (18, b""), (len(take(client, 18)), take(client, 1)))
         server.goes_on("half-closed clients")
         # Requests before the end are answered, though no DISC came.
-        with server.shaken() as client:
+        with server.new_client() as client:
             client.sendall(request(WRITE, 1, 5 * BLOCK, BLOCK) + block_of(77) + request(READ, 2, 5 * BLOCK, BLOCK))
             client.shutdown(socket.SHUT_WR)
             wanted = reply(1) + reply(2) + block_of(77)
             check("half-closed after requests", True, take(client, len(wanted) + 1) == wanted)
-        with server.shaken() as client:
+        with server.new_client() as client:
             client.sendall(request(WRITE, 1, 6 * BLOCK, BLOCK) + block_of(78)[:100])
             client.shutdown(socket.SHUT_WR)
             check("half-closed in a WRITE", b"", take(client, 1))
-        with server.shaken() as client:
+        with server.new_client() as client:
             client.shutdown(socket.SHUT_RD)
             with contextlib.suppress(OSError):
                 for cookie in range(200):
                     client.sendall(request(READ, cookie, 0, MIB))
         server.goes_on("half-closed clients with requests")
-        with server.shaken() as client:
+        with server.new_client() as client:
             client.sendall(request(READ, 1, 6 * BLOCK, BLOCK))
             check("half a WRITE leaves nothing", reply(1) + bytes(BLOCK), take(client, 16 + BLOCK))
 
@@ -139,7 +139,7 @@ def cut(folder):
     with Server(folder, "cut", 2) as server:
         whole = LONG_HANDSHAKE + request(READ, 1, 0, BLOCK) + request(STATUS, 2, 0, BLOCK) + request(WRITE, 3, 0, BLOCK)
         for count in range(len(whole) + 1):
-            for end in (socket.socket.close, dropped):
+            for end in (socket.socket.close, reset):
                 client = server.connect()
                 # (the server may have closed already)
                 with contextlib.suppress(OSError):
@@ -182,7 +182,7 @@ def largest(folder):
     blocks, image = 1 << 24, os.path.join(folder, "largest.img")
     format_image(image, "--blocks", str(blocks), "--area", "4194304", "--layout", "2")
     with serve(image, "--listen", "127.0.0.1:0", "--frames", str(FRAMES), "--sessions", "1") as server:
-        with socket.create_connection(("127.0.0.1", int(listening(server))), timeout=60) as client:
+        with socket.create_connection(("127.0.0.1", int(read_address(server))), timeout=60) as client:
             shake(client, LONG_HANDSHAKE)
             client.sendall(request(WRITE, 1, 5 * BLOCK, BLOCK) + block_of(1) + request(TRIM, 2, 1, 0xFFFFFFFF))
             client.sendall(request(STATUS, 3, 1, 0xFFFFFFFF) + request(FLUSH, 4) + request(DISC, 5))
@@ -265,7 +265,7 @@ def random_bytes(folder):
                         client.shutdown(socket.SHUT_WR)
                         take(client, source.randrange(MIB))
                     elif source.randrange(2):
-                        dropped(client)
+                        reset(client)
                 counts[index] += 1
 
         end = time.monotonic() + SECONDS

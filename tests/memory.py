@@ -30,7 +30,7 @@ from concurrent.futures import ThreadPoolExecutor
 
 import checks
 from checks import (
-    BLOCK, DISC, ENOMEM, FLUSH, HANDSHAKE, NBDJ, READ, TOP, WRITE, ZEROES, check, connected, counting, format_image, listening, preloaded, reply,
+    BLOCK, DISC, ENOMEM, FLUSH, HANDSHAKE, NBDJ, READ, TOP, WRITE, ZEROES, check, connect, counting, format_image, read_address, build_preload, reply,
     serve, shake, take, take_all,
 )
 
@@ -304,7 +304,7 @@ def refuse_on_file(name, words, image, amiss, whole, given=b""):
     conclude(name, calls, wrong)
 
 
-def recovered(image):
+def recover(image):
     """What the program prints when it recovers an image."""
     run = Run([NBDJ, "recover", image])
     return run.output.decode().strip() or run.errors
@@ -350,7 +350,7 @@ def refuse_pipe():
                 stored = {16: 1, 32: 2}.get(at, stored)
             elif answer != reply(at // 16 + 1, ENOMEM):
                 return f"a reply {answer.hex()}"
-        found = re.fullmatch(r"commands ([0-3])", recovered(tried.image))
+        found = re.fullmatch(r"commands ([0-3])", recover(tried.image))
         if not found or (int(found[1]) < stored and run.status != 0):
             return f"found {found and found[0]}, stored {stored}"
         return ""
@@ -384,7 +384,7 @@ def refuse_opening(name, words, image, number, printed):
         if tried.run.status != 0 and not tried.run.ended_for_memory():
             return f"status {tried.run.status}, {tried.run.errors}"
         # The next opening finishes what ended because memory ran out.
-        found = recovered(tried.image)
+        found = recover(tried.image)
         return "" if found == f"commands {number}" else f"found {found}"
 
     refuse_on_file(name, words, image, amiss, lambda tried: "" if tried.run.output == printed else "another line")
@@ -426,7 +426,7 @@ class Client:
 
     def __init__(self, path):
         self.refused = 0
-        self.socket = connected(path)
+        self.socket = connect(path)
         shake(self.socket)
 
     def ask(self, kind, cookie, offset, data=b"", length=0):
@@ -520,7 +520,7 @@ def serve_refused(call):
         limit = threading.Timer(30, server.kill)
         limit.start()
         try:
-            talks = [converse(path, 0), converse_at_once(path), converse(path, 1), converse(path, 2)] if listening(server) else []
+            talks = [converse(path, 0), converse_at_once(path), converse(path, 1), converse(path, 2)] if read_address(server) else []
             told = server.communicate()[1]
         except ValueError as error:
             server.kill()
@@ -560,7 +560,7 @@ def talk_while_short(path):
     """Writes blocks and flushes twice; whether the first FLUSH was answered Ok, so that the blocks are stored. A TimeoutError after 15
     seconds."""
     try:
-        with connected(path, 15) as client:
+        with connect(path, 15) as client:
             client.sendall(HANDSHAKE)
             if len(take(client, 104)) < 104:
                 return False
@@ -584,7 +584,7 @@ def serve_short(call):
     with serve(image, *words, stdin=subprocess.PIPE, stderr=subprocess.PIPE, env=environment) as server:
         amiss, stored = "", False
         try:
-            listened = listening(server) != ""
+            listened = read_address(server) != ""
             if listened:
                 with ThreadPoolExecutor(3) as clients:
                     stored = any(clients.map(talk_while_short, [path] * 3))
@@ -673,7 +673,7 @@ def refuse_tests():
 
 with tempfile.TemporaryDirectory() as folder, ThreadPoolExecutor(len(os.sched_getaffinity(0))) as pool:
     os.chdir(folder)
-    preloaded(".", "refuse_memory")
+    build_preload(".", "refuse_memory")
     format_image("fresh.img", "--blocks", str(BLOCKS), "--area", "2097152")
     refuse_scripts()
     refuse_format()

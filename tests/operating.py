@@ -28,7 +28,7 @@ from concurrent.futures import ThreadPoolExecutor
 import checks
 from checks import (
     BLOCK, BLOCKS, DISC, EIO, FLAGS, FLUSH, FRAMES, FUA, HANDSHAKE, LONG_HANDSHAKE, MIB, NBDJ, READ, TOP, TRIM, WRITE, ZEROES, Server, block_of, check,
-    connected, format_image, listening, preload, reply, request, run, run_scenario, serve, take,
+    connect, format_image, read_address, preload_settings, reply, request, run, run_scenario, serve, take,
 )
 
 SECTOR = 512
@@ -44,24 +44,24 @@ def write(client, cookie, count, flags=0):
     return take(client, 16) == reply(cookie)
 
 
-def recovered(server):
+def recover(server):
     """What a recovery of a server's image prints; the server has ended."""
     return run("recover", server.image)[1].strip()
 
 
-def killed(server):
+def kill_and_recover(server):
     server.kill()
-    return recovered(server)
+    return recover(server)
 
 
-def stored(server):
+def read_image(server):
     """The bytes of the image that an ended server has left, read by `pipe`."""
     asked = b"".join(request(READ, place, place * MIB, MIB) for place in range(BLOCKS * BLOCK // MIB))
     read = run("pipe", server.image, given=asked + request(DISC, 0))[1]
     return b"".join(read[place + 16:place + 16 + MIB] for place in range(0, len(read), MIB + 16))
 
 
-def ended(server, seconds=20):
+def wait_for_end(server, seconds=20):
     """The status and the standard error of a server that ends by itself; "it goes on" if it doesn't."""
     try:
         return server.process.wait(timeout=seconds), server.process.stderr.read()
@@ -72,27 +72,27 @@ def ended(server, seconds=20):
 def kills(folder):
     """Writes that no client has flushed, and a kill: after the end of the session, after the interval, and without an interval."""
     with Server(folder, "left", 2, "--flush-interval", "0") as server:
-        with server.shaken() as client:
+        with server.new_client() as client:
             check("three writes", True, all(write(client, cookie, MIB // 4) for cookie in (0, 1, 2)))
             client.sendall(request(DISC, 9))
             check("the end of the session", b"", take(client, 1))
-        check("a kill after the end of a session", "commands 3", killed(server))
+        check("a kill after the end of a session", "commands 3", kill_and_recover(server))
     with Server(folder, "cut", 2, "--flush-interval", "0") as server:
-        with server.shaken() as client:
+        with server.new_client() as client:
             check("a write before a connection is cut", True, write(client, 1, MIB // 4))
             client.shutdown(socket.SHUT_RDWR)
         time.sleep(1)
-        check("a kill after a connection was cut", "commands 1", killed(server))
+        check("a kill after a connection was cut", "commands 1", kill_and_recover(server))
     for name, words, wait, found in (("interval", ("--flush-interval", "1"), 2.5, 3), ("never", ("--flush-interval", "0"), 2.5, 0), ("usual", (), 2.5, 3),
                                     ("tenths", ("--flush-interval", "0.2"), 0.8, 3)):
-        with Server(folder, name, 2, *words) as server, server.shaken() as client:
+        with Server(folder, name, 2, *words) as server, server.new_client() as client:
             # (if a quarter of the frames were dirty, a checkpoint would store the writes)
             check(f"{name}: three writes", True, all(write(client, cookie, MIB // 8) for cookie in (0, 1, 2)))
             time.sleep(wait)
-            check(f"{name}: a kill after {wait} seconds", f"commands {found}", killed(server))
+            check(f"{name}: a kill after {wait} seconds", f"commands {found}", kill_and_recover(server))
 
 
-def goes_on_writing(client, seconds):
+def keep_writing(client, seconds):
     """Sends one WRITE after another and no FLUSH; how many there were."""
     end = time.monotonic() + seconds
     cookie = 0
@@ -107,9 +107,9 @@ def goes_on_writing(client, seconds):
 
 def intervals(folder):
     """The interval counts from the first write, even if the client goes on writing."""
-    with Server(folder, "writing", 2, "--flush-interval", "1") as server, server.shaken() as client:
-        count = goes_on_writing(client, 4)
-        found = int(killed(server).split()[1])
+    with Server(folder, "writing", 2, "--flush-interval", "1") as server, server.new_client() as client:
+        count = keep_writing(client, 4)
+        found = int(kill_and_recover(server).split()[1])
         check("at least a third of four seconds of writes is stored", True, found >= count // 3 or (found, count))
 
 
@@ -172,7 +172,7 @@ def sectors(folder):
     # (few enough that most are written again and again, over more blocks than there are frames)
     owned = [range(index, count // 4, 3) for index in range(3)]
     with Server(folder, "sectors", 4) as server:
-        clients = [server.shaken() for _ in owned]
+        clients = [server.new_client() for _ in owned]
         threads = [threading.Thread(target=it.write, args=(client, own, random.Random(own[0]))) for client, own in zip(clients, owned)]
         for thread in threads:
             thread.start()
@@ -183,8 +183,8 @@ def sectors(folder):
             thread.join()
         for client in clients:
             client.close()
-        check("sectors: the recovery", "commands", recovered(server).split()[0])
-        image = stored(server)
+        check("sectors: the recovery", "commands", recover(server).split()[0])
+        image = read_image(server)
     check("sectors: the image that is read", count * SECTOR, len(image))
     found = [struct.unpack(">I", image[sector * SECTOR + 4:sector * SECTOR + 8])[0] for sector in range(count)]
     torn = [sector for sector, number in enumerate(found)
@@ -206,7 +206,7 @@ def in_turn(folder):
     N writes, where N is what the recovery prints."""
     of_block, number, source, good = [[0] for _ in range(256)], 0, random.Random(9), True
     with Server(folder, "in_turn", 4, "--flush-interval", "1") as server:
-        clients = [server.shaken() for _ in range(3)]
+        clients = [server.new_client() for _ in range(3)]
         end = time.monotonic() + 2.5
         while good and time.monotonic() < end:
             number += 1
@@ -216,10 +216,10 @@ def in_turn(folder):
             client.sendall(request(WRITE, number, block * BLOCK, BLOCK) + block_of(number))
             good = take(client, 16) == reply(number)
         check("in turn: each write is answered", True, good)
-        count = int(killed(server).split()[1])
+        count = int(kill_and_recover(server).split()[1])
         for client in clients:
             client.close()
-        image = stored(server)
+        image = read_image(server)
     check("in turn: the writes of a second or more are stored", True, number > count // 2 > 50 or (number, count))
     wanted = [max(it for it in numbers if it <= count) for numbers in of_block]
     amiss = [block for block, number in enumerate(wanted) if image[block * BLOCK:(block + 1) * BLOCK] != (block_of(number) if number else bytes(BLOCK))]
@@ -227,11 +227,11 @@ def in_turn(folder):
     print(f"in turn: {number} writes, {count} stored", flush=True)
 
 
-def works(server, own, source):
+def run_client(server, own, source):
     """Sends requests on a part of the image that one client has for itself, and compares each answer with plain bytes; those bytes at the
     end."""
     first, plain = own * OWN_BLOCKS * BLOCK, bytearray(OWN_BLOCKS * BLOCK)
-    with server.shaken() as client:
+    with server.new_client() as client:
         for cookie in range(OWN_REQUESTS):
             kind = source.choice([WRITE, WRITE, WRITE, READ, READ, TRIM, ZEROES, FLUSH])
             length = 0 if kind == FLUSH else source.choice([BLOCK, BLOCK, 2 * BLOCK, 8 * BLOCK, source.randrange(1, 3 * BLOCK)])
@@ -266,14 +266,14 @@ def eight(folder):
         format_image(image, "--blocks", str(BLOCKS), "--area", area, *made)
         with Server(folder, name, 8, "--sessions", "8", "--flush-interval", "0", made=True) as server:
             with ThreadPoolExecutor(8) as pool:
-                images = list(pool.map(lambda own: works(server, own, random.Random(own)), range(8)))
-            check(f"{name}: the end", (0, ""), ended(server))
+                images = list(pool.map(lambda own: run_client(server, own, random.Random(own)), range(8)))
+            check(f"{name}: the end", (0, ""), wait_for_end(server))
             # Each checkpoint writes two headers, with the next two generations.
             with open(image, "rb") as file:
                 slots = file.read(2 * BLOCK)
             generation = max(int.from_bytes(slots[at + 9:at + 17], "big") for at in (0, BLOCK))
             check(f"{name}: ten checkpoints went on", True, generation > 20 or generation)
-            found = stored(server)
+            found = read_image(server)
             for own, plain in enumerate(images):
                 check(f"{name}: what client {own} wrote", True, found[own * len(plain):(own + 1) * len(plain)] == plain)
 
@@ -283,15 +283,15 @@ def is_silent(client):
     return not select.select([client], [], [], 0)[0]
 
 
-def slow(folder, seconds=5):
+def slow_syncs(folder, seconds=5):
     """The settings of a server whose device takes this many seconds for each sync."""
-    return preload(folder, "slow_sync", SLOW_SYNC_US=str(seconds * 1000000))
+    return preload_settings(folder, "slow_sync", SLOW_SYNC_US=str(seconds * 1000000))
 
 
 def beside(folder):
     """While one client waits for the device, another one is answered. Replies that are due are sent before a FLUSH waits. A FLUSH covers
     what other clients were answered before."""
-    with Server(folder, "beside", 2, "--flush-interval", "0", **slow(folder)) as server, server.shaken(60) as one, server.shaken(60) as other:
+    with Server(folder, "beside", 2, "--flush-interval", "0", **slow_syncs(folder)) as server, server.new_client(60) as one, server.new_client(60) as other:
         one.sendall(request(WRITE, 1, MIB, BLOCK, FUA) + bytes([1]) * BLOCK)
         time.sleep(0.5)
         check("a write is answered while a sync is held", True, write(other, 2, BLOCK))
@@ -301,38 +301,38 @@ def beside(folder):
         check("before a flush waits: the reply that is due", reply(3), take(other, 16))
         check("before a flush waits: it waits", True, is_silent(other))
         check("before a flush waits: it is done", reply(4), take(other, 16))
-        check("commands of two clients, and a kill", "commands 3", killed(server))
-    with Server(folder, "covered", 2, "--flush-interval", "0") as server, server.shaken() as one, server.shaken() as other:
+        check("commands of two clients, and a kill", "commands 3", kill_and_recover(server))
+    with Server(folder, "covered", 2, "--flush-interval", "0") as server, server.new_client() as one, server.new_client() as other:
         check("sixteen writes", True, all(write(one, cookie, BLOCK) for cookie in range(16)))
         other.sendall(request(FLUSH, 77) + request(READ, 78, 5 * MIB, BLOCK))
         check("another client's flush and read", reply(77) + reply(78) + bytes([5]) * BLOCK, take(other, 32 + BLOCK))
-        check("what another client's flush covered, and a kill", "commands 16", killed(server))
+        check("what another client's flush covered, and a kill", "commands 16", kill_and_recover(server))
 
 
 def unflushed(folder):
     """In ordered a FLUSH makes nothing durable: neither it nor FUA waits for a sync, and a kill loses the writes before it."""
-    with Server(folder, "unflushed", 2, "--cache", "ordered", "--flush-interval", "0", **slow(folder)) as server, server.shaken() as client:
+    with Server(folder, "unflushed", 2, "--cache", "ordered", "--flush-interval", "0", **slow_syncs(folder)) as server, server.new_client() as client:
         begun = time.monotonic()
         check("a write in ordered", True, write(client, 1, BLOCK))
         check("a write with FUA in ordered", True, write(client, 2, BLOCK, FUA))
         client.sendall(request(FLUSH, 3) + request(READ, 4, MIB, BLOCK))
         check("a flush in ordered", reply(3) + reply(4) + bytes([1]) * BLOCK, take(client, 32 + BLOCK))
         check("none of them waits for a sync", True, time.monotonic() - begun < 4)
-        check("a kill after a flush in ordered", "commands 0", killed(server))
+        check("a kill after a flush in ordered", "commands 0", kill_and_recover(server))
 
 
 def bounded(folder):
     """While each sync takes two seconds: `--loss-bytes` limits what is pending, and with `--loss-seconds` a write waits for an older one."""
     quarter = MIB // 4
-    with Server(folder, "bytes", 2, "--cache", "ordered", "--loss-bytes", "2M", "--flush-interval", "0", **slow(folder, 2)) as server, server.shaken(60) as client:
+    with Server(folder, "bytes", 2, "--cache", "ordered", "--loss-bytes", "2M", "--flush-interval", "0", **slow_syncs(folder, 2)) as server, server.new_client(60) as client:
         for cookie in range(8):
             client.sendall(request(WRITE, cookie, cookie * quarter, quarter) + bytes([cookie]) * quarter)
         check("seven writes of 262,157 bytes each are pending", b"".join(reply(cookie) for cookie in range(7)), take(client, 7 * 16))
         time.sleep(1)
         check("the eighth waits", True, is_silent(client))
         check("the eighth is answered once a group is stored", reply(7), take(client, 16))
-        check("a kill then leaves some", True, int(killed(server).split()[1]) >= 1)
-    with Server(folder, "seconds", 2, "--loss-seconds", "0.5", "--flush-interval", "0", **slow(folder, 2)) as server, server.shaken(60) as client:
+        check("a kill then leaves some", True, int(kill_and_recover(server).split()[1]) >= 1)
+    with Server(folder, "seconds", 2, "--loss-seconds", "0.5", "--flush-interval", "0", **slow_syncs(folder, 2)) as server, server.new_client(60) as client:
         check("a first write", True, write(client, 1, BLOCK))
         check("a second one at once", True, write(client, 2, BLOCK))
         time.sleep(1)
@@ -341,7 +341,7 @@ def bounded(folder):
         time.sleep(1)
         check("a write waits while the first is old", True, is_silent(client))
         check("it is answered once the first is stored", reply(3), take(client, 16))
-        check("a kill then leaves the two", "commands 2", killed(server))
+        check("a kill then leaves the two", "commands 2", kill_and_recover(server))
 
 
 class Prefixes:
@@ -401,7 +401,7 @@ def shown(folder):
     """While one client writes more blocks than there are frames, two others take turns to read some of them: neither READ shows a shorter
     prefix than the one before it."""
     it, source = Prefixes(FRAMES * 2), random.Random(7)
-    with Server(folder, "shown", 3) as server, server.shaken() as writer, server.shaken() as one, server.shaken() as other:
+    with Server(folder, "shown", 3) as server, server.new_client() as writer, server.new_client() as one, server.new_client() as other:
         end = time.monotonic() + 4
         writes = threading.Thread(target=it.write, args=(writer, random.Random(8), end))
         writes.start()
@@ -419,7 +419,7 @@ def shown(folder):
 def asked_to_end(folder):
     """The server ends when standard input does: with a client that waits, one that reads no reply, and none."""
     for name, flushes in (("waiting", False), ("flushed", True)):
-        with Server(folder, name, 2, "--until-eof", "--flush-interval", "0", stdin=subprocess.PIPE) as server, server.shaken() as client:
+        with Server(folder, name, 2, "--until-eof", "--flush-interval", "0", stdin=subprocess.PIPE) as server, server.new_client() as client:
             check(f"{name}: a write", True, write(client, 1, MIB // 4))
             if flushes:
                 client.sendall(request(FLUSH, 2))
@@ -430,9 +430,9 @@ def asked_to_end(folder):
             check(f"{name}: it goes on", None, server.process.poll())
             server.process.stdin.close()
             check(f"{name}: the end of the session", b"", take(client, 1))
-            check(f"{name}: the end of the input", (0, ""), ended(server))
-            check(f"{name}: what was answered is stored", "commands 1", recovered(server))
-    with Server(folder, "deaf-end", 2, "--until-eof", stdin=subprocess.PIPE) as server, server.shaken() as client:
+            check(f"{name}: the end of the input", (0, ""), wait_for_end(server))
+            check(f"{name}: what was answered is stored", "commands 1", recover(server))
+    with Server(folder, "deaf-end", 2, "--until-eof", stdin=subprocess.PIPE) as server, server.new_client() as client:
         client.settimeout(2)
         try:
             for cookie in range(200):
@@ -441,17 +441,17 @@ def asked_to_end(folder):
             pass
         begun = time.monotonic()
         server.process.stdin.close()
-        check("a client that reads no reply: the end", (0, ""), ended(server))
+        check("a client that reads no reply: the end", (0, ""), wait_for_end(server))
         check("a client that reads no reply: at most 9 seconds", True, time.monotonic() - begun < 9 or time.monotonic() - begun)
     with Server(folder, "empty-end", 4, "--until-eof") as server:
-        check("an empty input", (0, ""), ended(server))
+        check("an empty input", (0, ""), wait_for_end(server))
     image = os.path.join(folder, "empty-end.img")
     path = os.path.join(folder, "end.sock")
     done = run("serve", image, "--unix", path, "--until-eof", seconds=20)
     check("an empty input at a Unix socket", (0, f"listening {path}\n", "", False), (*done, os.path.exists(path)))
 
 
-def goes_on_in(client, blocks, answered):
+def keep_writing_blocks(client, blocks, answered):
     """Writes one block after another, none flushed, until the connection ends; `answered` gets the last answered write of each."""
     number = 0
     try:
@@ -466,7 +466,7 @@ def goes_on_in(client, blocks, answered):
         pass
 
 
-def heed_signals():
+def reset_signals():
     """Resets signals: a shell can't trap one that was ignored when it began, as SIGINT in the background and SIGHUP under nohup."""
     for number in (signal.SIGTERM, signal.SIGINT, signal.SIGHUP):
         signal.signal(number, signal.SIG_DFL)
@@ -479,33 +479,33 @@ def managed(folder):
     ways = (("terminated", os.kill, signal.SIGTERM), ("interrupted", os.kill, signal.SIGINT), ("hung-up", os.kill, signal.SIGHUP),
             ("group", os.killpg, signal.SIGTERM))
     for name, send, number in ways:
-        settings = {"program": (script,), "env": {**os.environ, "NBDJ": NBDJ}, "start_new_session": True, "preexec_fn": heed_signals}
+        settings = {"program": (script,), "env": {**os.environ, "NBDJ": NBDJ}, "start_new_session": True, "preexec_fn": reset_signals}
         with Server(folder, name, 4, "--flush-interval", "0", **settings) as server:
             answered = {}
-            clients = [server.shaken() for _ in range(3)]
-            threads = [threading.Thread(target=goes_on_in, args=(client, range(index * 100, index * 100 + 100), answered)) for index, client in enumerate(clients)]
+            clients = [server.new_client() for _ in range(3)]
+            threads = [threading.Thread(target=keep_writing_blocks, args=(client, range(index * 100, index * 100 + 100), answered)) for index, client in enumerate(clients)]
             for thread in threads:
                 thread.start()
             time.sleep(1)
             send(server.process.pid, number)
-            check(f"{name}: the end", (0, ""), ended(server))
+            check(f"{name}: the end", (0, ""), wait_for_end(server))
             # (otherwise the clients would not end)
             server.process.kill()
             for thread in threads:
                 thread.join()
             for client in clients:
                 client.close()
-            image = stored(server)
+            image = read_image(server)
             found = {block: struct.unpack_from(">I", image, block * BLOCK)[0] for block in answered}
             check(f"{name}: what was answered is stored", [], [block for block in answered if found[block] < answered[block]][:9])
             check(f"{name}: there were writes", True, len(answered) > 9 or len(answered))
-    with Server(folder, "killed", 4, "--flush-interval", "0", **settings) as server, server.shaken() as client:
+    with Server(folder, "killed", 4, "--flush-interval", "0", **settings) as server, server.new_client() as client:
         check("killed: a write", True, write(client, 1, BLOCK))
         server.process.kill()
         check("killed: nbdj ends, and stores what was answered", b"", take(client, 1))
         server.process.wait(timeout=60)
         for _ in range(100):
-            found = recovered(server)
+            found = recover(server)
             if found:
                 break
             time.sleep(0.1)
@@ -521,7 +521,7 @@ def managed(folder):
 def early_signal(script, image, environment, millis):
     """The status of nbdj-server if its group gets a signal this many milliseconds after the start."""
     server = subprocess.Popen([script, image, "--unix", f"{image}.sock"], env=environment, stdin=subprocess.DEVNULL, stdout=subprocess.DEVNULL,
-                              stderr=subprocess.DEVNULL, start_new_session=True, preexec_fn=heed_signals)
+                              stderr=subprocess.DEVNULL, start_new_session=True, preexec_fn=reset_signals)
     time.sleep(millis / 1000)
     os.killpg(server.pid, signal.SIGTERM)
     return server.wait(timeout=20)
@@ -530,7 +530,7 @@ def early_signal(script, image, environment, millis):
 def idle(folder):
     """A client that is silent after its handshake is disconnected, and one that sends something in time isn't."""
     with Server(folder, "idle", 1, "--idle-timeout", "2", "--flush-interval", "0") as server:
-        with server.shaken() as client:
+        with server.new_client() as client:
             for cookie in (1, 2, 3):
                 time.sleep(1)
                 check("a client that sends something", True, write(client, cookie, BLOCK))
@@ -541,7 +541,7 @@ def idle(folder):
         server.goes_on("after an idle client")
 
 
-def limited(count=0):
+def limit_file_size(count=0):
     """The settings of a server that can write this many bytes after the headers, and none after those, as if the disk were full."""
 
     def limit():
@@ -553,18 +553,18 @@ def limited(count=0):
 
 def failing(folder):
     """A device that is full: waiting requests get EIO, and the server ends, or stays with `--on-fault stay`."""
-    with Server(folder, "failing", 3, **limited()) as server, server.shaken() as other, server.shaken() as client:
+    with Server(folder, "failing", 3, **limit_file_size()) as server, server.new_client() as other, server.new_client() as client:
         check("failing: a write", True, write(client, 1, BLOCK))
         client.sendall(request(FLUSH, 2))
         check("failing: a flush", reply(2, EIO), take(client, 16))
         check("failing: its session ends", b"", take(client, 1))
         check("failing: another session ends", b"", take(other, 1))
-        status, errors = ended(server)
+        status, errors = wait_for_end(server)
         told = [re.sub(r"write of \d+ bytes at \d+", "write of N bytes at K", line) for line in errors.splitlines()]
         wanted = [f"nbdj: {server.image}: write of N bytes at K: File too large (os error 27)", "nbdj: device fault (1)"]
         check("failing: the end", (1, wanted), (status, told))
-        check("failing: the image", "commands 0", recovered(server))
-    with Server(folder, "staying", 3, "--on-fault", "stay", **limited()) as server, server.shaken() as client:
+        check("failing: the image", "commands 0", recover(server))
+    with Server(folder, "staying", 3, "--on-fault", "stay", **limit_file_size()) as server, server.new_client() as client:
         check("staying: a write", True, write(client, 1, BLOCK))
         client.sendall(request(WRITE, 4, 0, BLOCK, FUA) + bytes(BLOCK))
         check("staying: a write with FUA", reply(4, EIO), take(client, 16))
@@ -575,7 +575,7 @@ def failing(folder):
         client.sendall(request(WRITE, 5, 0, BLOCK) + bytes(BLOCK))
         check("staying: a write", reply(5, EIO), take(client, 16))
         check("staying: it lives", None, server.process.poll())
-        told = server.told(1)
+        told = server.read_log(1)
         server.kill()
         told = "".join([*told, server.process.stderr.read()]).splitlines()
         check("staying: it told once", [True], [line.endswith(": File too large (os error 27)") for line in told])
@@ -583,7 +583,7 @@ def failing(folder):
 
 def second_writer(folder):
     """Another process changes the header in force: the server ends before it would change the header, and stores nothing more."""
-    with Server(folder, "second writer", 2) as server, server.shaken() as client:
+    with Server(folder, "second writer", 2) as server, server.new_client() as client:
         check("second writer: a write", True, write(client, 1, BLOCK))
         with open(server.image, "r+b") as image:
             # The header that `format` has written stands in slot 0, its generation in bytes 9 to 16.
@@ -598,12 +598,12 @@ def second_writer(folder):
             goes_on = False
         check("second writer: all writes are stored", False, goes_on)
         told = f"nbdj: {server.image}: the header isn't the one this process wrote last: something else has written to this image"
-        check("second writer: the end", (1, [told, "nbdj: device fault (1)"]), (lambda it: (it[0], it[1].splitlines()))(ended(server)))
+        check("second writer: the end", (1, [told, "nbdj: device fault (1)"]), (lambda it: (it[0], it[1].splitlines()))(wait_for_end(server)))
         with open(server.image, "rb") as image:
             check("second writer: the headers stay", True, image.read(2 * BLOCK) == left)
 
 
-def writes_rounds(client, own):
+def write_rounds(client, own):
     """Writes the blocks of one client in rounds, each with a FLUSH, until one isn't confirmed; how many were."""
     first = own * ROUND_BLOCKS
     for number in range(1, ROUNDS + 1):
@@ -621,16 +621,16 @@ def writes_rounds(client, own):
 def failing_amid_eight(folder):
     """A device fails while eight clients write: each is answered or disconnected, the server ends, and what a FLUSH confirmed is there."""
     for room in (100_000, 700_000, 1_500_000):
-        with Server(folder, f"failing after {room}", 8, **limited(room)) as server:
+        with Server(folder, f"failing after {room}", 8, **limit_file_size(room)) as server:
             with contextlib.ExitStack() as stack, ThreadPoolExecutor(8) as pool:
-                clients = [stack.enter_context(server.shaken()) for _ in range(8)]
-                confirmed = list(pool.map(writes_rounds, clients, range(8)))
-            status, errors = ended(server)
+                clients = [stack.enter_context(server.new_client()) for _ in range(8)]
+                confirmed = list(pool.map(write_rounds, clients, range(8)))
+            status, errors = wait_for_end(server)
             check(f"{server.name}: the end", (1, True), (status, errors.endswith("nbdj: device fault (1)\n") or errors))
             check(f"{server.name}: some rounds aren't confirmed", True, sum(confirmed) < 8 * ROUNDS)
-            number = int(recovered(server).split()[1])
+            number = int(recover(server).split()[1])
             check(f"{server.name}: commands", True, number >= sum(confirmed) * ROUND_BLOCKS or (number, confirmed))
-            found = stored(server)
+            found = read_image(server)
             for own, least in enumerate(confirmed):
                 for block in range(own * ROUND_BLOCKS, (own + 1) * ROUND_BLOCKS):
                     data = found[block * BLOCK:(block + 1) * BLOCK]
@@ -649,7 +649,7 @@ def gathered(folder):
                 return number
         return times
 
-    with Server(folder, "gathered", 2, **preload(folder, "slow_sync", SLOW_SYNC_US="4000")) as server, server.shaken() as one, server.shaken() as other:
+    with Server(folder, "gathered", 2, **preload_settings(folder, "slow_sync", SLOW_SYNC_US="4000")) as server, server.new_client() as one, server.new_client() as other:
         with ThreadPoolExecutor(2) as pool:
             together = list(pool.map(lambda it: flushes(*it), [(one, 0, 6), (other, 1, 6)]))
         check("gathered: both", [6, 6], together)
@@ -659,17 +659,17 @@ def gathered(folder):
 def unreadable(folder):
     """A sector that can't be read: a READ of it, and a WRITE of part of its block, get EIO, and no other request notices."""
     bad, lines = 9, []
-    with Server(folder, "unreadable", 3) as server, server.shaken() as client:
+    with Server(folder, "unreadable", 3) as server, server.new_client() as client:
         client.sendall(request(WRITE, 1, 0, 16 * BLOCK) + bytes([1]) * 16 * BLOCK + request(DISC, 2))
         check("unreadable: a write", reply(1), take(client, 16))
         check("unreadable: the end of the session", b"", take(client, 1))
         # (the next start copies it into the image)
-        check("unreadable: a kill", "commands 1", killed(server))
+        check("unreadable: a kill", "commands 1", kill_and_recover(server))
     with open(server.image, "rb") as file:
         data = file.read().rindex(bytes([1]) * 16 * BLOCK)
     place = data + bad * BLOCK + 700
-    settings = preload(folder, "fail_calls", BAD_BYTE=str(place))
-    with Server(folder, "unreadable", 3, made=True, **settings) as server, server.shaken() as one, server.shaken() as other:
+    settings = preload_settings(folder, "fail_calls", BAD_BYTE=str(place))
+    with Server(folder, "unreadable", 3, made=True, **settings) as server, server.new_client() as one, server.new_client() as other:
         answers = []
         for number in range(1, 501):
             one.sendall(request(WRITE, number, (100 + number) * BLOCK, BLOCK) + block_of(number))
@@ -694,8 +694,8 @@ def unreadable(folder):
         server.kill()
         lines = server.process.stderr.read().splitlines()
     check("unreadable: it is told once", [f"nbdj: {server.image}: read of {BLOCK} bytes at {place - 700}: Input/output error (os error 5)"], lines)
-    recovered(server)
-    image = stored(server)
+    recover(server)
+    image = read_image(server)
     amiss = [number for number in range(1, 501) if image[(100 + number) * BLOCK:(101 + number) * BLOCK] != block_of(number)]
     check("unreadable: what was flushed is there", [], amiss[:9])
 
@@ -703,7 +703,7 @@ def unreadable(folder):
 def told(folder):
     """What the log has of two clients that come one after the other."""
     with Server(folder, "told", 1, "--verbose") as server:
-        with server.shaken() as client:
+        with server.new_client() as client:
             check("told: a write", True, write(client, 1, 2 * BLOCK))
             client.sendall(request(READ, 2, 0, BLOCK))
             check("told: a read", reply(2), take(client, 16 + BLOCK)[:16])
@@ -717,7 +717,7 @@ def told(folder):
             client.shutdown(socket.SHUT_WR)
             while client.recv(MIB):
                 pass
-        lines = server.told(7)
+        lines = server.read_log(7)
         server.kill()
         lines = "".join([*lines, server.process.stderr.read()]).splitlines()
         lines = [re.sub(r"\d+\.\d+ s$", "T s", re.sub(r"127\.0\.0\.1:\d+", "A", line)) for line in lines]
@@ -736,7 +736,7 @@ def refused_when_full(folder):
     """With `--when-full refuse` a client is disconnected before any byte while all workers are busy, and served once one is free."""
     with Server(folder, "refusing", 1, "--when-full", "refuse") as server:
         for _ in range(2):
-            with server.shaken() as client:
+            with server.new_client() as client:
                 for _ in range(3):
                     with server.connect(5) as other:
                         check("refusing: one client too many", b"", take(other, 1))
@@ -768,7 +768,7 @@ def silent_handshakes(folder):
                     check("refuse: a client within the second", b"", take(early, 1))
                 time.sleep(1.2)
             # (without the rule it would be 30 seconds)
-            with server.shaken(15) as client:
+            with server.new_client(15) as client:
                 check(f"{way}: a client while others are silent", True, write(client, 1, BLOCK))
                 check(f"{way}: one of them gave up its worker", [False, True], sorted(map(is_open, silent)))
                 client.sendall(request(DISC, 9))
@@ -782,7 +782,7 @@ def silent_handshakes(folder):
         check("unhurried: a write", True, write(client, 1, BLOCK))
 
 
-def converses(client):
+def is_served(client):
     """Whether a client on this connection is greeted and served; otherwise what it got."""
     with client:
         client.settimeout(20)
@@ -797,13 +797,13 @@ def many_listeners(folder):
     format_image(image, "--size", "16M")
     words = ["--unix", paths[0], "--listen", "127.0.0.1:0", "--unix", paths[1], "--listen", "127.0.0.1:0", "--unix-mode", "0600"]
     with serve(image, *words, "--until-eof", stdin=subprocess.PIPE, stderr=subprocess.PIPE) as server:
-        said = [listening(server) for _ in range(4)]
+        said = [read_address(server) for _ in range(4)]
         check("many: the lines, addresses first", (True, paths), (all(said), said[2:]))
         for _ in range(2):
             for port in map(int, said[:2]):
-                check("many: a client of an address", True, converses(socket.create_connection(("127.0.0.1", port))))
+                check("many: a client of an address", True, is_served(socket.create_connection(("127.0.0.1", port))))
             for path in paths:
-                check("many: a client of a socket", True, converses(connected(path)))
+                check("many: a client of a socket", True, is_served(connect(path)))
         check("many: the modes", ["0o600", "0o600"], [oct(os.stat(path).st_mode & 0o777) for path in paths])
         server.stdin.close()
         check("many: the end", (0, ""), (server.wait(timeout=20), server.stderr.read()))
@@ -817,7 +817,7 @@ def many_listeners(folder):
 def start_with(sockets, *words, program=(NBDJ, "serve"), environment=None):
     """Starts a server with listening sockets at the descriptors from 3 on, as systemd does."""
     def place():
-        heed_signals()
+        reset_signals()
         copies = [os.dup(it.fileno()) for it in sockets]
         for at, copy in enumerate(copies):
             os.dup2(copy, 3 + at)
@@ -838,17 +838,17 @@ def activated(folder):
         # (systemd's own sockets don't block)
         tcp.setblocking(False)
         for turn in range(2):
-            early = [socket.create_connection(("127.0.0.1", port)), connected(path)]
+            early = [socket.create_connection(("127.0.0.1", port)), connect(path)]
             with start_with([tcp, unix], image, "--until-eof") as server:
                 check(f"activated {turn}: the lines", [f"listening {port}\n", f"listening {path}\n"], [server.stdout.readline() for _ in range(2)])
-                check(f"activated {turn}: early clients", [True, True], [converses(client) for client in early])
-                check(f"activated {turn}: later clients", [True, True], [converses(socket.create_connection(("127.0.0.1", port))), converses(connected(path))])
+                check(f"activated {turn}: early clients", [True, True], [is_served(client) for client in early])
+                check(f"activated {turn}: later clients", [True, True], [is_served(socket.create_connection(("127.0.0.1", port))), is_served(connect(path))])
                 server.stdin.close()
                 check(f"activated {turn}: the end", (0, ""), (server.wait(timeout=20), server.stderr.read()))
             check(f"activated {turn}: the socket's file stays", True, os.path.exists(path))
         script, environment = os.path.join(TOP, "packaging", "nbdj-server"), {**os.environ, "NBDJ": NBDJ}
         with start_with([tcp], image, program=(script,), environment=environment) as server:
-            check("activated, by nbdj-server: a client", True, converses(socket.create_connection(("127.0.0.1", port))))
+            check("activated, by nbdj-server: a client", True, is_served(socket.create_connection(("127.0.0.1", port))))
             server.terminate()
             check("activated, by nbdj-server: the end", (0, ""), (server.wait(timeout=20), server.stderr.read()))
         for words in (("--listen", "127.0.0.1:0"), ("--unix", f"{path}.other")):
@@ -869,7 +869,7 @@ def crowded(folder):
     few = {"preexec_fn": lambda: resource.setrlimit(resource.RLIMIT_NOFILE, (9, 9)), "restore_signals": False}
     with Server(folder, "crowded", 8, **few) as server:
         clients = [server.connect() for _ in range(8)]
-        lines = server.told(1)
+        lines = server.read_log(1)
         for client in clients:
             client.close()
         check("crowded: the log", [f"nbdj: {server.image}: a client can't be accepted: Too many open files (os error 24)\n"], lines)
@@ -893,7 +893,7 @@ def unheard(folder):
     silent, full = full_pipe()
     with Server(folder, "unheard", 2, "--verbose", "--until-eof", stdin=subprocess.PIPE, stderr=full) as server:
         for _ in range(3):
-            with server.shaken(5) as client:
+            with server.new_client(5) as client:
                 check("unheard: a write", True, write(client, 1, 2 * BLOCK))
                 client.sendall(request(FLUSH, 2))
                 check("unheard: a flush", reply(2), take(client, 16))
@@ -901,7 +901,7 @@ def unheard(folder):
                 check("unheard: the end of the session", b"", take(client, 1))
         server.process.stdin.close()
         check("unheard: the end", 0, server.process.wait(timeout=20))
-    with Server(folder, "unheard fault", 2, stderr=full, **limited()) as server, server.shaken(5) as client:
+    with Server(folder, "unheard fault", 2, stderr=full, **limit_file_size()) as server, server.new_client(5) as client:
         check("unheard fault: a write", True, write(client, 1, BLOCK))
         client.sendall(request(FLUSH, 2))
         check("unheard fault: a flush", reply(2, EIO), take(client, 16))
@@ -914,7 +914,7 @@ def unheard(folder):
 def copied(folder):
     """The log has a line of a checkpoint, which begins because the write takes a quarter of the frames."""
     with Server(folder, "copied", 1, "--verbose") as server:
-        with server.shaken() as client:
+        with server.new_client() as client:
             check("copied: a write", True, write(client, 0, MIB // 2))
             client.sendall(request(FLUSH, 9))
             check("copied: a flush", reply(9), take(client, 16))
@@ -927,13 +927,13 @@ def copied(folder):
 
 def long_opening(folder):
     """An opening that takes six seconds shows its progress, in lines or as a bar on a terminal; a short one shows none."""
-    with Server(folder, "long", 1, "--flush-interval", "0") as server, server.shaken() as client:
+    with Server(folder, "long", 1, "--flush-interval", "0") as server, server.new_client() as client:
         # Less than a quarter of the frames, so no checkpoint begins; copied in 13 pieces of 32 KiB.
         check("long: a write", True, write(client, 1, 100 * BLOCK))
         client.sendall(request(FLUSH, 9))
         check("long: a flush", reply(9), take(client, 16))
         server.kill()
-    slowly = preload(folder, "slow_sync", SLOW_WRITE_US="500000")
+    slowly = preload_settings(folder, "slow_sync", SLOW_WRITE_US="500000")
     with open(server.image, "rb") as file:
         image = file.read()
 
@@ -968,7 +968,7 @@ def put_and_flush(server, client, cookie):
     check(f"{server.name}: a flush", reply(cookie), take(client, 16))
 
 
-def while_locked(image, *words, **settings):
+def start_waiting(image, *words, **settings):
     """Starts a command that waits for the lock of an image."""
     return subprocess.Popen([NBDJ, *words[:1], image, "--wait-lock", *words[1:]], stdout=subprocess.PIPE, stderr=subprocess.PIPE, text=True, **settings)
 
@@ -976,15 +976,15 @@ def while_locked(image, *words, **settings):
 def waiting(folder):
     """`--wait-lock`: a command waits while another process has the lock, says so once, and then finds what that one has left."""
     refused = []
-    with Server(folder, "locked", 1) as server, server.shaken() as client:
+    with Server(folder, "locked", 1) as server, server.new_client() as client:
         said = f"nbdj: {server.image}: another process has locked it; waiting for it\n"
         put_and_flush(server, client, 1)
         for command in (["recover", server.image], ["upgrade", server.image], ["serve", server.image, "--listen", "127.0.0.1:0"]):
             status, output, errors = run(*command)
             refused.append((status, output, errors.splitlines()[-1:]))
         check("locked: without --wait-lock", [(4, "", [f"nbdj: {server.image} is in use"])] * 3, refused)
-        asked = while_locked(server.image, "serve", "--listen", "127.0.0.1:0", "--until-eof", stdin=subprocess.PIPE)
-        waits = while_locked(server.image, "recover")
+        asked = start_waiting(server.image, "serve", "--listen", "127.0.0.1:0", "--until-eof", stdin=subprocess.PIPE)
+        waits = start_waiting(server.image, "recover")
         time.sleep(1.3)
         check("locked: they wait", (None, None), (asked.poll(), waits.poll()))
         check("locked: a stop while it waits", ("", said), asked.communicate(timeout=20))
@@ -994,11 +994,11 @@ def waiting(folder):
         check("locked: what is found once the lock is free", ("commands 2\n", said), waits.communicate(timeout=20))
         check("locked: the status then", 0, waits.returncode)
     with Server(folder, "locked", 1, made=True) as server:
-        waits = while_locked(server.image, "serve", "--listen", "127.0.0.1:0")
+        waits = start_waiting(server.image, "serve", "--listen", "127.0.0.1:0")
         check("locked: what a server says", said, waits.stderr.readline())
         server.process.kill()
-        check("locked: it serves then", True, listening(waits) != "")
-        upgrades = while_locked(server.image, "upgrade")
+        check("locked: it serves then", True, read_address(waits) != "")
+        upgrades = start_waiting(server.image, "upgrade")
         check("locked: what an upgrade says", said, upgrades.stderr.readline())
         waits.kill()
         waits.communicate(timeout=20)
@@ -1007,7 +1007,7 @@ def waiting(folder):
 
 
 @contextlib.contextmanager
-def hampered(folder, name, *words, made=False, **settings):
+def serve_hampered(folder, name, *words, made=False, **settings):
     """A server whose device hangs once the file NAME.stuck is there, and whose lock is lost once NAME.lost is; and a function that makes one."""
 
     def make(what):
@@ -1015,14 +1015,14 @@ def hampered(folder, name, *words, made=False, **settings):
             pass
 
     places = {"STUCK": os.path.join(folder, f"{name}.stuck"), "LOST": os.path.join(folder, f"{name}.lost")}
-    with Server(folder, name, 2, *words, made=made, **preload(folder, "stuck_calls", **places), **settings) as server:
+    with Server(folder, name, 2, *words, made=made, **preload_settings(folder, "stuck_calls", **places), **settings) as server:
         yield server, make
     for place in places.values():
         if os.path.exists(place):
             os.remove(place)
 
 
-def bytes_at(path):
+def read_file(path):
     with open(path, "rb") as file:
         return file.read()
 
@@ -1030,32 +1030,32 @@ def bytes_at(path):
 def late(folder):
     """`--device-timeout`: a device call that hangs ends the server, which stores nothing more and disconnects its clients."""
     limit = ("--device-timeout", "0.5")
-    with hampered(folder, "late", *limit) as (server, make), server.shaken() as other, server.shaken() as client:
+    with serve_hampered(folder, "late", *limit) as (server, make), server.new_client() as other, server.new_client() as client:
         told = [f"nbdj: {server.image}: a call of the device has taken longer than 0.500 s", "nbdj: device fault (1)"]
         put_and_flush(server, client, 1)
         check("late: a write that isn't flushed", True, write(client, 2, BLOCK))
         make("stuck")
-        before, begun = bytes_at(server.image), time.monotonic()
+        before, begun = read_file(server.image), time.monotonic()
         client.sendall(request(FLUSH, 3))
         check("late: the flush has no answer", b"", take(client, 16))
         check("late: another session ends", b"", take(other, 1))
-        status, errors = ended(server)
+        status, errors = wait_for_end(server)
         check("late: the end", (1, told), (status, errors.splitlines()))
         check("late: it came in time", True, 0.5 <= time.monotonic() - begun < 10 or time.monotonic() - begun)
-        check("late: nothing more was stored", True, before == bytes_at(server.image))
-    check("late: what was confirmed is there", "commands 1", recovered(server))
+        check("late: nothing more was stored", True, before == read_file(server.image))
+    check("late: what was confirmed is there", "commands 1", recover(server))
     # A read without locks, of a block that isn't in memory.
-    with hampered(folder, "late", *limit, made=True) as (server, make), server.shaken() as client:
+    with serve_hampered(folder, "late", *limit, made=True) as (server, make), server.new_client() as client:
         make("stuck")
         client.sendall(request(READ, 1, MIB, BLOCK))
         check("late: a read has no answer", b"", take(client, 16))
-        check("late: the end by a read", (1, "\n".join(told) + "\n"), ended(server))
+        check("late: the end by a read", (1, "\n".join(told) + "\n"), wait_for_end(server))
     # An opening that hangs, while standard error is a full pipe.
     silent, full = full_pipe()
     stuck = os.path.join(folder, "late.stuck")
     with open(stuck, "wb"):
         pass
-    opening = serve(server.image, "--listen", "127.0.0.1:0", *limit, stderr=full, **preload(folder, "stuck_calls", STUCK=stuck))
+    opening = serve(server.image, "--listen", "127.0.0.1:0", *limit, stderr=full, **preload_settings(folder, "stuck_calls", STUCK=stuck))
     try:
         check("late: an opening", ("", 1), (opening.communicate(timeout=20)[0], opening.returncode))
     finally:
@@ -1065,16 +1065,16 @@ def late(folder):
         os.close(silent)
         os.close(full)
     # Slow calls within the limit.
-    settings = preload(folder, "slow_sync", SLOW_SYNC_US="50000")
-    with Server(folder, "slow and in time", 1, "--device-timeout", "10", "--lock-check", "0.01", **settings) as server, server.shaken() as client:
+    settings = preload_settings(folder, "slow_sync", SLOW_SYNC_US="50000")
+    with Server(folder, "slow and in time", 1, "--device-timeout", "10", "--lock-check", "0.01", **settings) as server, server.new_client() as client:
         for cookie in range(1, 6):
             put_and_flush(server, client, cookie)
-        check("slow and in time: a kill", "commands 5", killed(server))
+        check("slow and in time: a kill", "commands 5", kill_and_recover(server))
 
 
 def shut_out(folder):
     """`--lock-check`: a lost lock or a failed sync is a device fault, even while no client asks for anything."""
-    with hampered(folder, "shut out", "--lock-check", "0.2") as (server, make), server.shaken() as client:
+    with serve_hampered(folder, "shut out", "--lock-check", "0.2") as (server, make), server.new_client() as client:
         put_and_flush(server, client, 1)
         check("shut out: a write that isn't flushed", True, write(client, 2, BLOCK))
         time.sleep(0.5)
@@ -1083,9 +1083,9 @@ def shut_out(folder):
         make("lost")
         check("shut out: its session ends", b"", take(client, 1))
         wanted = [f"nbdj: {server.image}: lock check: File descriptor in bad state (os error 77)", "nbdj: device fault (1)"]
-        status, errors = ended(server)
+        status, errors = wait_for_end(server)
         check("shut out: the end", (1, wanted), (status, errors.splitlines()))
-    with hampered(folder, "shut out and staying", "--lock-check", "0.2", "--on-fault", "stay") as (server, make), server.shaken() as client:
+    with serve_hampered(folder, "shut out and staying", "--lock-check", "0.2", "--on-fault", "stay") as (server, make), server.new_client() as client:
         put_and_flush(server, client, 1)
         make("lost")
         errors = server.process.stderr.readline()
@@ -1094,16 +1094,16 @@ def shut_out(folder):
             client.sendall(asked)
             check("shut out and staying: it no longer answers from memory", reply(2, EIO), take(client, 16))
         check("shut out and staying: it lives", None, server.process.poll())
-    with hampered(folder, "unchecked") as (server, make), server.shaken() as client:
+    with serve_hampered(folder, "unchecked") as (server, make), server.new_client() as client:
         put_and_flush(server, client, 1)
         make("lost")
         time.sleep(0.5)
         put_and_flush(server, client, 2)
     # An idle server syncs only in these checks.
-    settings = preload(folder, "fail_calls", FAIL_CALL="fdatasync 30")
+    settings = preload_settings(folder, "fail_calls", FAIL_CALL="fdatasync 30")
     with Server(folder, "unsynced", 1, "--lock-check", "0.02", **settings) as server:
         wanted = [f"nbdj: {server.image}: lock check: Input/output error (os error 5)", "nbdj: device fault (1)"]
-        status, errors = ended(server)
+        status, errors = wait_for_end(server)
         check("unsynced: the end", (1, wanted), (status, errors.splitlines()))
 
 

@@ -22,7 +22,7 @@ import time
 
 import checks
 from checks import NBDJ, check, format_image
-from cut_chain import ENVIRONMENT, Chain, CutDisk, awaited, drawn_from, isolate, run, unmount
+from cut_chain import ENVIRONMENT, Chain, CutDisk, await_socket, random_from, isolate, run, unmount
 from databases import MariaDb, Postgres, Sqlite, make_file_system
 
 SIZE = 384 << 20
@@ -30,7 +30,7 @@ DATABASES = [it for it in (Sqlite("wal", "wal"), Sqlite("delete", "delete"), Pos
 NEEDED = ("nbdkit", "nbdfuse", "nbdcopy", "mkfs.ext4", "e2fsck", "losetup", "unshare")
 
 
-def prepared(folder):
+def prepare(folder):
     """A file system with the databases, as a file."""
     raw = f"{folder}/prepared.raw"
     with open(raw, "wb") as file:
@@ -39,11 +39,11 @@ def prepared(folder):
     return raw
 
 
-def copied(folder, image, raw, into):
+def copy_image(folder, image, raw, into):
     """Copies a file into an image, or an image into a file."""
     path = f"{folder}/copy"
     with subprocess.Popen([NBDJ, "serve", image, "--unix", path, "--sessions", "1"], env=ENVIRONMENT, stdin=subprocess.DEVNULL, stdout=subprocess.DEVNULL) as server:
-        awaited(path, server)
+        await_socket(path, server)
         uri = f"nbd+unix:///?socket={path}"
         run(["nbdcopy", "--connections=1", *(["--flush", raw, uri] if into else [uri, raw])], seconds=300)
         if server.wait(120):
@@ -65,11 +65,11 @@ class Nbdj:
     def made(self, folder, raw):
         image = f"{folder}/made.img"
         format_image(image, "--blocks", str(SIZE // 4096), "--area", str(16 << 20))
-        copied(folder, image, raw, True)
+        copy_image(folder, image, raw, True)
         return image
 
     def opened(self, folder, image, raw):
-        copied(folder, image, raw, False)
+        copy_image(folder, image, raw, False)
 
 
 class Nbdkit:
@@ -108,12 +108,12 @@ def cut_once(folder, server, image, drawn):
     with open(f"{folder}/cut.img", "wb") as file:
         file.write(disk.synced)
     server.opened(folder, f"{folder}/cut.img", f"{folder}/cut.raw")
-    wrong, lasts = judged(folder, f"{folder}/cut.raw")
+    wrong, lasts = judge(folder, f"{folder}/cut.raw")
     lost = [(*commits.lost(last, moment), len(commits.moments)) for commits, last in zip(loads, lasts)]
     return wrong, lost, disk.syncs
 
 
-def judged(folder, raw):
+def judge(folder, raw):
     """What is wrong with a file system after its own recovery, and the last row of each database."""
     wrong, mount = [], f"{folder}/judged"
     run(["e2fsck", "-y", "-E", "journal_only", raw], check=False)
@@ -139,7 +139,7 @@ def cuts_of(folder, server, raw, count, seed):
         image = file.read()
     corrupt, losses = 0, []
     for turn in range(count):
-        wrong, lost, syncs = cut_once(folder, server, image, drawn_from(seed, turn))
+        wrong, lost, syncs = cut_once(folder, server, image, random_from(seed, turn))
         corrupt += bool(wrong)
         losses += lost
         told = ", ".join(f"{database.name} {gone} of {of} commits, {seconds:.2f} s" for database, (gone, seconds, of) in zip(DATABASES, lost))
@@ -164,7 +164,7 @@ def main():
     # (the user of PostgreSQL goes through it)
     os.chmod(folder, 0o755)
     try:
-        raw = prepared(folder)
+        raw = prepare(folder)
         if asked.only in (None, "ordered"):
             corrupt, losses = cuts_of(folder, Nbdj("ordered"), raw, asked.cuts, asked.seed)
             check("ordered: nothing is corrupt after a cut", 0, corrupt)

@@ -11,8 +11,8 @@ import sys
 
 import checks
 from checks import (
-    BLOCK, DF, DISC, FLUSH, FUA, LONG_HANDSHAKE, MIB, NO_HOLE, READ, REQ_ONE, STATUS, TRIM, WRITE, ZEROES, check, connected, reply, request,
-    served, shake,
+    BLOCK, DF, DISC, FLUSH, FUA, LONG_HANDSHAKE, MIB, NO_HOLE, READ, REQ_ONE, STATUS, TRIM, WRITE, ZEROES, check, connect, reply, request,
+    serve_new, shake,
 )
 
 MOST_SPLIT = 400
@@ -24,14 +24,14 @@ def of(*parts):
     return b"".join(bytes.fromhex(part) if isinstance(part, str) else part for part in parts)
 
 
-def shaken(path):
+def connect_structured(path):
     """A client that has structured replies and the context."""
-    client = connected(path)
+    client = connect(path)
     shake(client, LONG_HANDSHAKE)
     return client
 
 
-def taken(client, count):
+def take_until_reset(client, count):
     """This many bytes; fewer if the server closes, also by a reset because of input that it hasn't read."""
     found = b""
     with contextlib.suppress(ConnectionResetError):
@@ -49,10 +49,10 @@ def answers(begin, path, pieces, count):
                 client.sendall(piece)
         with contextlib.suppress(OSError):
             client.shutdown(socket.SHUT_WR)
-        return taken(client, count + 1)
+        return take_until_reset(client, count + 1)
 
 
-def hold(name, begin, path, sent, wanted):
+def check_stream(name, begin, path, sent, wanted):
     """Checks the answers to a stream that is sent in one piece, and in two, split at each place."""
     check(name, wanted.hex(" ", 4), answers(begin, path, [sent], len(wanted)).hex(" ", 4))
     if len(sent) < MOST_SPLIT:
@@ -129,32 +129,32 @@ BEGINNINGS = [
 
 def requests(folder):
     for number, (name, sent, wanted) in enumerate(REQUESTS):
-        with served(folder, f"requests-{number}", 16) as path:
-            check(f"{name}: the first write", reply(1), answers(shaken, path, [FIRST], 16))
-            hold(name, shaken, path, sent, wanted)
-            hold(f"{name}, and a DISC", shaken, path, sent + request(DISC, 9, 7, 7), wanted)
+        with serve_new(folder, f"requests-{number}", 16) as path:
+            check(f"{name}: the first write", reply(1), answers(connect_structured, path, [FIRST], 16))
+            check_stream(name, connect_structured, path, sent, wanted)
+            check_stream(f"{name}, and a DISC", connect_structured, path, sent + request(DISC, 9, 7, 7), wanted)
 
 
 def nothing(folder):
-    with served(folder, "nothing", 16) as path:
+    with serve_new(folder, "nothing", 16) as path:
         for name, sent, wanted in NOTHING:
-            hold(name, shaken, path, sent, wanted)
+            check_stream(name, connect_structured, path, sent, wanted)
 
 
 def beginnings(folder):
-    with served(folder, "beginnings", 16) as path:
+    with serve_new(folder, "beginnings", 16) as path:
         for name, sent, wanted in BEGINNINGS:
-            hold(name, connected, path, sent, wanted)
+            check_stream(name, connect, path, sent, wanted)
 
 
 def by_turns(folder):
     """2,050 blocks, of which the even ones are data, all bytes 'A': states and bytes from byte 1 on."""
-    with served(folder, "turns", 2050) as path:
+    with serve_new(folder, "turns", 2050) as path:
         for begin in range(0, 2050, 256):
             even = range(begin, min(begin + 256, 2050), 2)
             sent = b"".join(request(WRITE, 1, block * BLOCK, BLOCK) + b"A" * BLOCK for block in even)
-            check(f"the even blocks from {begin} on", True, answers(shaken, path, [sent], 16 * len(even)) == reply(1) * len(even))
-        hold("1,024 states of many", shaken, path, request(STATUS, 255, 1, 2050 * BLOCK - 2),
+            check(f"the even blocks from {begin} on", True, answers(connect_structured, path, [sent], 16 * len(even)) == reply(1) * len(even))
+        check_stream("1,024 states of many", connect_structured, path, request(STATUS, 255, 1, 2050 * BLOCK - 2),
              of("668e33ef 0001 0005 00000000000000ff 00002004 00000001 00000fff 00000000", "00001000 00000003 00001000 00000000" * 511, "00001000 00000003"))
         # 257 blocks are touched, the last one by one byte.
         wanted = of("668e33ef 0000 0001 0000000000000007 00001007 0000000000000001", b"A" * 4095)
@@ -165,7 +165,7 @@ def by_turns(folder):
                 place = struct.pack(">Q", (block + 1) * BLOCK)
                 wanted += of("668e33ef 0000 0001 0000000000000007 00001008", place, b"A" * BLOCK)
         wanted += of("668e33ef 0001 0001 0000000000000007 00000009 0000000000100000 41")
-        found = answers(shaken, path, [request(READ, 7, 1, MIB)], len(wanted))
+        found = answers(connect_structured, path, [request(READ, 7, 1, MIB)], len(wanted))
         check("a read of 1 MiB from byte 1 on", True, found == wanted or (len(wanted), len(found)))
 
 
@@ -185,7 +185,7 @@ TYPES = [
 
 def flags(folder):
     """Each type of request with each flag by itself."""
-    with served(folder, "flags", 16) as path:
+    with serve_new(folder, "flags", 16) as path:
         for kind, allowed, done in TYPES:
             sent = wanted = b""
             for bit in range(16):
@@ -197,32 +197,32 @@ def flags(folder):
                     wanted += of(f"668e33ef 0001 0001 {cookie:016x} 00001008 {15 * BLOCK:016x}", bytes(BLOCK)) if flag == DF else of(done % cookie)
                 else:
                     wanted += of(f"668e33ef 0001 8001 {cookie:016x} 00000006 00000016 0000") if kind in (READ, STATUS) else reply(cookie, 22)
-            check(f"type {kind} with each flag", True, answers(shaken, path, [sent], len(wanted)) == wanted)
+            check(f"type {kind} with each flag", True, answers(connect_structured, path, [sent], len(wanted)) == wanted)
         for bit in range(16):
-            check(f"a DISC with flag {bit}", b"", answers(shaken, path, [request(DISC, 1, 0, 0, 1 << bit) + request(FLUSH, 2)], 1))
+            check(f"a DISC with flag {bit}", b"", answers(connect_structured, path, [request(DISC, 1, 0, 0, 1 << bit) + request(FLUSH, 2)], 1))
 
 
 def lengths(folder):
     """WRITEs that are accepted, dropped and not read, their heads cut in two, and a wrong magic number after a request."""
-    with served(folder, "lengths", 2050) as path:
+    with serve_new(folder, "lengths", 2050) as path:
         for length, error in ((0, 22), (1, 0), (BLOCK, 0), (MIB, 0), (MIB + 1, 22), (32 * MIB, 22)):
             head = request(WRITE, 8, 0, length)
             for cut in (0, 1, 27, 28):
                 pieces = [head[:cut], head[cut:], bytes([7]) * length, request(FLUSH, 9)]
-                check(f"a WRITE of {length} bytes, cut at {cut}", reply(8, error) + reply(9), answers(shaken, path, pieces, 32))
-        check("a WRITE that is too long", reply(7), answers(shaken, path, [request(FLUSH, 7) + request(WRITE, 8, 0, 32 * MIB + 1)], 16))
+                check(f"a WRITE of {length} bytes, cut at {cut}", reply(8, error) + reply(9), answers(connect_structured, path, pieces, 32))
+        check("a WRITE that is too long", reply(7), answers(connect_structured, path, [request(FLUSH, 7) + request(WRITE, 8, 0, 32 * MIB + 1)], 16))
         for place in range(4):
             broken = bytearray(request(FLUSH, 8))
             broken[place] ^= 1
             sent = request(FLUSH, 7) + broken + request(FLUSH, 9)
-            check(f"another magic number at {place}", reply(7), answers(shaken, path, [sent], 16))
+            check(f"another magic number at {place}", reply(7), answers(connect_structured, path, [sent], 16))
 
 
 def ordered(folder):
     """In ordered a FLUSH and FUA are answered Ok, though they make nothing durable. Invalid requests are refused as in other modes."""
-    with served(folder, "ordered", 16, "--cache", "ordered", "--flush-interval", "0") as path:
+    with serve_new(folder, "ordered", 16, "--cache", "ordered", "--flush-interval", "0") as path:
         sent = FIRST + request(WRITE, 2, BLOCK, 4, FUA) + b"BBBB" + request(FLUSH, 3) + request(FLUSH, 4, 1, 0) + request(TRIM, 5, 0, BLOCK, FUA)
-        hold("requests in ordered", shaken, path, sent, reply(1) + reply(2) + reply(3) + reply(4, 22) + reply(5))
+        check_stream("requests in ordered", connect_structured, path, sent, reply(1) + reply(2) + reply(3) + reply(4, 22) + reply(5))
 
 
 if __name__ == "__main__":

@@ -18,7 +18,7 @@ import time
 from concurrent.futures import ThreadPoolExecutor
 
 import checks
-from checks import BLOCK, FLUSH, NO_HOLE, READ, TRIM, WRITE, ZEROES, check, connected, format_image, listening, reply, request, serve, shake, take_all
+from checks import BLOCK, FLUSH, NO_HOLE, READ, TRIM, WRITE, ZEROES, check, connect, format_image, read_address, reply, request, serve, shake, take_all
 
 BLOCKS = 256
 # `--area` by layout; each journal area has 2 MiB in both.
@@ -31,7 +31,7 @@ class Client:
     """A client at a Unix socket, with simple replies."""
 
     def __init__(self, path):
-        self.socket = connected(path)
+        self.socket = connect(path)
         shake(self.socket)
         self.cookie = 0
 
@@ -107,7 +107,7 @@ class Restarts:
         self.server = serve(self.image, "--unix", self.path, "--frames", "512", "--flush-interval", "0", stderr=subprocess.PIPE)
 
     def listens(self):
-        return listening(self.server) == self.path or self.server.stderr.read()
+        return read_address(self.server) == self.path or self.server.stderr.read()
 
     def kill(self):
         self.server.kill()
@@ -115,7 +115,7 @@ class Restarts:
         with open(self.image, "rb") as file:
             self.slots = self.slots[-4:] + [[file.read(40).hex(), (file.seek(BLOCK), file.read(40).hex())[1]]]
 
-    def told(self, name):
+    def print_slots(self, name):
         """Prints the last header slots, for a failure."""
         for one, other in self.slots:
             print(f"{name}: slots {one} {other}", flush=True)
@@ -146,14 +146,14 @@ def run(folder, layout):
         said = restarts.listens()
         if said is not True:
             check(f"layout {layout}, restart {number}: it listens", True, said)
-            restarts.told(f"layout {layout}, restart {number}")
+            restarts.print_slots(f"layout {layout}, restart {number}")
             return ways
         client = Client(restarts.path)
         found = client.image()
         stands = next((count for count, image in load.leaves(known) if image == found), None)
         if stands is None:
             near = next(load.leaves(known))[1]
-            restarts.told(f"layout {layout}, restart {number}")
+            restarts.print_slots(f"layout {layout}, restart {number}")
             check(f"layout {layout}, restart {number}: the image after {load.confirmed} to {len(load.sent)} commands", "none", f"blocks {differing(near, found)}")
             return ways
         check(f"layout {layout}, restart {number}: the image is one that a kill may leave", True, load.confirmed <= stands <= len(load.sent))

@@ -22,23 +22,22 @@ import time
 
 import checks
 from checks import (
-    BLOCK, BLOCKS, DISC, EINVAL, EIO, FLUSH, FRAMES, MIB, NBDJ, READ, TOP, TRIM, WRITE, ZEROES, Server, check, connected, format_image, reply, request,
+    BLOCK, BLOCKS, DISC, EINVAL, EIO, FLUSH, FRAMES, MIB, NBDJ, READ, TOP, TRIM, WRITE, ZEROES, Server, check, connect, format_image, reply, request,
     take,
 )
 from hostile import SEED
-from operating import limited
-from operating import slow as slow_device
+from operating import limit_file_size, slow_syncs
 
 ROUNDS = 10_000
 
 
 def ask(path, method="GET", target="/status", version="HTTP/1.1", seconds=20):
     """The status line, the fields and the body of the answer from the socket at a path."""
-    return answered(path, f"{method} {target} {version}\r\nHost: x\r\n\r\n".encode(), seconds)
+    return send_raw(path, f"{method} {target} {version}\r\nHost: x\r\n\r\n".encode(), seconds)
 
 
-def answered(path, sent, seconds=20):
-    with connected(path, seconds) as client:
+def send_raw(path, sent, seconds=20):
+    with connect(path, seconds) as client:
         with contextlib.suppress(BrokenPipeError, ConnectionResetError):
             client.sendall(sent)
             client.shutdown(socket.SHUT_WR)
@@ -62,7 +61,7 @@ def samples(path):
 
 
 @contextlib.contextmanager
-def told(folder, name, *words, **settings):
+def serve_with_status(folder, name, *words, **settings):
     """A server with a status socket, and the path of that socket."""
     path = os.path.join(folder, f"{name}.status")
     with Server(folder, name, 2, "--status", path, *words, **settings) as server:
@@ -74,7 +73,7 @@ def write(client, cookie, offset, data, flags=0):
     return take(client, 16)
 
 
-def sent(client, kind, cookie, offset, length):
+def send(client, kind, cookie, offset, length):
     client.sendall(request(kind, cookie, offset, length))
     return take(client, 16)
 
@@ -83,12 +82,12 @@ def known_load(client):
     """Five WRITEs of a block, a TRIM and a WRITE_ZEROES of 16 blocks, three READs of two blocks, and one beyond the end."""
     for number in range(5):
         check("known: a write", reply(number), write(client, number, number * BLOCK, bytes([number + 1]) * BLOCK))
-    check("known: a trim", reply(5), sent(client, TRIM, 5, MIB, 16 * BLOCK))
-    check("known: a write of zeroes", reply(6), sent(client, ZEROES, 6, 2 * MIB, 16 * BLOCK))
+    check("known: a trim", reply(5), send(client, TRIM, 5, MIB, 16 * BLOCK))
+    check("known: a write of zeroes", reply(6), send(client, ZEROES, 6, 2 * MIB, 16 * BLOCK))
     for number in range(3):
-        check("known: a read", reply(7 + number), sent(client, READ, 7 + number, 0, 2 * BLOCK))
+        check("known: a read", reply(7 + number), send(client, READ, 7 + number, 0, 2 * BLOCK))
         take(client, 2 * BLOCK)
-    check("known: a read beyond the end", reply(10, EINVAL), sent(client, READ, 10, BLOCKS * BLOCK, BLOCK))
+    check("known: a read beyond the end", reply(10, EINVAL), send(client, READ, 10, BLOCKS * BLOCK, BLOCK))
 
 
 BODIES = 5 * (13 + BLOCK) + 2 * 13
@@ -112,9 +111,9 @@ AFTER = {
 
 def known(folder):
     """A known load, before and after a FLUSH."""
-    with told(folder, "known", "--flush-interval", "0", "--until-eof", stdin=subprocess.PIPE) as (server, path):
+    with serve_with_status(folder, "known", "--flush-interval", "0", "--until-eof", stdin=subprocess.PIPE) as (server, path):
         check("known: the mode of the socket", 0o600, stat.S_IMODE(os.stat(path).st_mode))
-        with server.shaken() as client:
+        with server.new_client() as client:
             began = time.monotonic()
             known_load(client)
             time.sleep(0.3)
@@ -125,7 +124,7 @@ def known(folder):
             check("known: before a flush", BEFORE, {name: before.get(name) for name in BEFORE})
             age = before["pending_age_microseconds"] / 1e6
             check("known: the age of what is pending", True, 0.3 <= age <= most and age >= least - 0.3)
-            check("known: a flush", reply(11), sent(client, FLUSH, 11, 0, 0))
+            check("known: a flush", reply(11), send(client, FLUSH, 11, 0, 0))
             after = figures(path)
             check("known: after a flush", AFTER, {name: after.get(name) for name in AFTER})
             check("known: the group took two syncs", 2, after["syncs"] - syncs)
@@ -133,7 +132,7 @@ def known(folder):
             check_metrics(path)
             client.sendall(request(DISC, 12))
             take(client, 1)
-        check("known: a client that left", True, waited(lambda: figures(path)["clients"] == 0))
+        check("known: a client that left", True, holds_within(lambda: figures(path)["clients"] == 0))
         check("known: the name of the image", server.image, figures(path)["image"])
         check_printed(path)
         server.process.stdin.close()
@@ -141,7 +140,7 @@ def known(folder):
         check("known: the socket is gone", False, os.path.exists(path))
 
 
-def waited(holds, seconds=10):
+def holds_within(holds, seconds=10):
     """Whether a condition holds within some seconds."""
     late = time.monotonic() + seconds
     while not holds():
@@ -269,7 +268,7 @@ def check_watched(path):
 
 def requests_of_others(folder):
     """Requests that aren't for one of the three paths."""
-    with told(folder, "others") as (server, path):
+    with serve_with_status(folder, "others") as (server, path):
         for name, sent_bytes, wanted in (
             ("another path", b"GET /x HTTP/1.1\r\n\r\n", "404 Not Found"),
             ("another method", b"POST /status HTTP/1.1\r\n\r\n", "405 Method Not Allowed"),
@@ -279,10 +278,10 @@ def requests_of_others(folder):
             ("many fields", b"GET /status HTTP/1.1\r\n" + b"X: x\r\n" * 40 + b"\r\n", "431 Request Header Fields Too Large"),
             ("an old version", b"GET /status HTTP/1.0\r\n\r\n", "200 OK"),
         ):
-            line, fields, body = answered(path, sent_bytes)
+            line, fields, body = send_raw(path, sent_bytes)
             check(f"others: {name}", f"HTTP/1.1 {wanted}", line)
             check(f"others: {name}, its length", str(len(body.encode())), fields.get("Content-Length"))
-        check("others: half a request", ("", {}, ""), answered(path, b"GET /sta"))
+        check("others: half a request", ("", {}, ""), send_raw(path, b"GET /sta"))
         server.goes_on("after other requests")
 
 
@@ -290,14 +289,14 @@ def mutated(folder):
     """Requests with random bytes changed, removed and added, while another client reads from the export."""
     drawn = random.Random(SEED)
     good = b"GET /metrics HTTP/1.1\r\nHost: x\r\nAccept: */*\r\n\r\n"
-    with told(folder, "mutated") as (server, path):
+    with serve_with_status(folder, "mutated") as (server, path):
         worst, is_over = [0.0], threading.Event()
 
         def go_on():
-            with server.shaken() as client:
+            with server.new_client() as client:
                 while not is_over.is_set():
                     began = time.monotonic()
-                    sent(client, READ, 1, 0, BLOCK)
+                    send(client, READ, 1, 0, BLOCK)
                     take(client, BLOCK)
                     worst[0] = max(worst[0], time.monotonic() - began)
 
@@ -309,7 +308,7 @@ def mutated(folder):
                 place = drawn.randrange(len(bad))
                 bad[place:place + drawn.randrange(3)] = bytes(drawn.randrange(256) for _ in range(drawn.randrange(3)))
                 bad = bad or bytearray(b"x")
-            answered(path, bytes(bad))
+            send_raw(path, bytes(bad))
         is_over.set()
         reader.join()
         check("mutated: a client of the export never waits for a second", True, worst[0] < 1)
@@ -319,25 +318,25 @@ def mutated(folder):
 
 def silent(folder):
     """Four silent clients occupy the status socket: a fifth one waits, and clients of the export don't."""
-    with told(folder, "silent", "--until-eof", stdin=subprocess.PIPE) as (server, path):
+    with serve_with_status(folder, "silent", "--until-eof", stdin=subprocess.PIPE) as (server, path):
         with contextlib.ExitStack() as clients:
             for _ in range(4):
-                clients.enter_context(connected(path))
+                clients.enter_context(connect(path))
             began = time.monotonic()
             server.goes_on("during silent clients of the status socket")
             check("silent: the export's clients don't wait", True, time.monotonic() - began < 1.5)
             check("silent: a further one is answered", "HTTP/1.1 200 OK", ask(path)[0])
             check("silent: it waits for no more than three seconds", True, time.monotonic() - began < 4.5)
             for _ in range(4):
-                clients.enter_context(connected(path))
+                clients.enter_context(connect(path))
             server.process.stdin.close()
             check("silent: the end", 0, server.process.wait(timeout=20))
 
 
 def slow(folder):
     """While a sync takes five seconds, the figures come at once, with what is pending."""
-    with told(folder, "slow", "--flush-interval", "0", **slow_device(folder)) as (server, path):
-        with server.shaken() as client:
+    with serve_with_status(folder, "slow", "--flush-interval", "0", **slow_syncs(folder)) as (server, path):
+        with server.new_client() as client:
             check("slow: a write", reply(1), write(client, 1, 0, bytes(BLOCK)))
             client.sendall(request(FLUSH, 2))
             time.sleep(0.5)
@@ -354,10 +353,10 @@ def slow(folder):
 
 def faulty(folder):
     """After a device fault a server with `--on-fault stay` still gives its figures."""
-    with told(folder, "faulty", "--on-fault", "stay", **limited()) as (server, path):
-        with server.shaken() as client:
+    with serve_with_status(folder, "faulty", "--on-fault", "stay", **limit_file_size()) as (server, path):
+        with server.new_client() as client:
             write(client, 1, 0, bytes(BLOCK))
-            check("faulty: a flush", reply(2, EIO), sent(client, FLUSH, 2, 0, 0))
+            check("faulty: a flush", reply(2, EIO), send(client, FLUSH, 2, 0, 0))
         found = figures(path)
         check("faulty: the error is counted", (1, 1), (found["errors"]["EIO"], found["requests"]["flush"]))
         check("faulty: nothing is durable", 0, found["durable_number"])
@@ -365,9 +364,9 @@ def faulty(folder):
 
 def stored(folder):
     """Unflushed writes are stored once `nbdj status --store` has returned, and a kill loses only later ones."""
-    with told(folder, "stored", "--flush-interval", "0") as (server, path):
+    with serve_with_status(folder, "stored", "--flush-interval", "0") as (server, path):
         check("stored: nothing yet", (0, "stored 0\n", ""), run(path, "--store"))
-        with server.shaken() as client:
+        with server.new_client() as client:
             for number in range(3):
                 write(client, number, number * BLOCK, bytes([number + 1]) * BLOCK)
             check("stored: pending before", 3, figures(path)["pending_commands"])
@@ -382,8 +381,8 @@ def stored(folder):
 
 def stored_slowly(folder):
     """While `--store` waits for two syncs of five seconds, figures come at once, and a second `--store` gets 409 and tries again."""
-    with told(folder, "slowly", "--flush-interval", "0", **slow_device(folder)) as (server, path):
-        with server.shaken() as client:
+    with serve_with_status(folder, "slowly", "--flush-interval", "0", **slow_syncs(folder)) as (server, path):
+        with server.new_client() as client:
             write(client, 1, 0, bytes(BLOCK))
             began = time.monotonic()
             first = subprocess.Popen([NBDJ, "status", "--store", path], stdout=subprocess.PIPE, text=True)
@@ -399,8 +398,8 @@ def stored_slowly(folder):
 
 def stored_by_a_device_that_fails(folder):
     """`--store` fails after a device fault."""
-    with told(folder, "unstored", "--on-fault", "stay", "--flush-interval", "0", **limited()) as (server, path):
-        with server.shaken() as client:
+    with serve_with_status(folder, "unstored", "--on-fault", "stay", "--flush-interval", "0", **limit_file_size()) as (server, path):
+        with server.new_client() as client:
             write(client, 1, 0, bytes(BLOCK))
             check("unstored: it says so", (1, "", f"nbdj: not stored by {path}\n"), run(path, "--store"))
             check("unstored: nothing is durable", 0, figures(path)["durable_number"])
