@@ -12,8 +12,8 @@ import subprocess
 import sys
 
 import checks
-from checks import BLOCK, DISC, FLUSH, READ, STATUS, WRITE, check, connect, format_image, read_address, reply, request, run, serve
-from requests import GREETING, answers, check_stream, of, serve_new
+from checks import BLOCK, DISC, FLUSH, READ, STATUS, WRITE, check, connect, format_image, read_address, reply, request, run, serve, serve_new
+from requests import GREETING, answers, check_stream, of
 
 MAGIC, REPLY = "49484156454f5054", "0003e889045565a9"
 ABORT, LIST, STARTTLS, INFO, GO, STRUCTURED_REPLY, LIST_CONTEXT, SET_CONTEXT = 2, 3, 5, 6, 7, 8, 9, 10
