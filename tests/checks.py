@@ -73,7 +73,7 @@ def run(*words, given="", seconds=60, **settings):
 
 
 def format_image(path, *words):
-    """Makes an image, and replaces one that is there."""
+    """Makes an image by `nbdj format`."""
     subprocess.run([NBDJ, "format", path, *words], check=True, stdin=subprocess.DEVNULL, stdout=subprocess.DEVNULL, timeout=60)
 
 
@@ -90,7 +90,7 @@ def read_address(server):
 
 
 def build_preload(folder, name):
-    """The library that is made of tests/preloads/NAME.c, to be preloaded."""
+    """Makes a library of tests/preloads/NAME.c, unless it is there; its path."""
     library = os.path.join(folder, f"{name}.so")
     if not os.path.exists(library):
         words = ["-Wall", "-Werror", "-shared", "-fPIC", "-O2", "-pthread", "-o", library, f"{TOP}/tests/preloads/{name}.c", "-ldl"]
@@ -99,7 +99,7 @@ def build_preload(folder, name):
 
 
 def preload_settings(folder, name, **variables):
-    """The settings of a process that has this library preloaded, and these variables besides."""
+    """The settings of a process with this library preloaded and these variables."""
     return {"env": {**os.environ, **variables, "LD_PRELOAD": build_preload(folder, name)}}
 
 
