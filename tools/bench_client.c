@@ -211,6 +211,12 @@ static void prepare(struct connection *it, const char *uri, const struct kind *k
     }
 }
 
+/* Sends requests in a thread of its own until the end. */
+static void begin(struct connection *it, double end) {
+    it->end = end;
+    if (pthread_create(&it->thread, NULL, serve_thread, it)) fail("a thread");
+}
+
 static void finish(struct connection *it) {
     if (nbd_shutdown(it->nbd, 0) == -1) fail("shutdown");
     nbd_close(it->nbd);
@@ -229,10 +235,7 @@ static void run(const char *uri, const char *name, unsigned count, double second
     }
     for (unsigned k = 0; k < count; k++) prepare(&connections[k], uri, kind, k, blocks);
     double begun = now();
-    for (unsigned k = 0; k < count; k++) {
-        connections[k].end = begun + seconds;
-        if (pthread_create(&connections[k].thread, NULL, serve_thread, &connections[k])) fail("a thread");
-    }
+    for (unsigned k = 0; k < count; k++) begin(&connections[k], begun + seconds);
     uint64_t answered = 0;
     for (unsigned k = 0; k < count; k++) {
         pthread_join(connections[k].thread, NULL);
@@ -273,10 +276,7 @@ static void beside(const char *uri, unsigned length, unsigned flushers, double s
     for (unsigned k = 0; k < flushers; k++) prepare(&connections[k], uri, &kinds[1], k, blocks);
     prepare(&reader, uri, &kinds[4], MOST_CONNECTIONS, blocks);
     double begun = now();
-    for (unsigned k = 0; k < flushers; k++) {
-        connections[k].end = begun + seconds;
-        if (pthread_create(&connections[k].thread, NULL, serve_thread, &connections[k])) fail("a thread");
-    }
+    for (unsigned k = 0; k < flushers; k++) begin(&connections[k], begun + seconds);
     for (double from = now(); from < begun + seconds && answered < MOST_TIMES; answered++) {
         uint64_t offset = any(&reader) % (blocks - length / BLOCK + 1) * BLOCK;
         if (nbd_pread(reader.nbd, data, length, offset, 0) == -1) fail("a read");
@@ -313,12 +313,8 @@ static void stall(const char *uri, double seconds, uint64_t blocks) {
     flusher.times = malloc(MOST_TIMES * sizeof *times);
     if (!times || !flusher.times) fail("memory");
     double begun = now();
-    flusher.end = begun + seconds;
-    if (pthread_create(&flusher.thread, NULL, serve_thread, &flusher)) fail("a thread");
-    for (unsigned k = 0; k < WRITERS; k++) {
-        connections[k].end = begun + seconds;
-        if (pthread_create(&connections[k].thread, NULL, serve_thread, &connections[k])) fail("a thread");
-    }
+    begin(&flusher, begun + seconds);
+    for (unsigned k = 0; k < WRITERS; k++) begin(&connections[k], begun + seconds);
     for (double from = now(); from < begun + seconds && read < MOST_TIMES; read++) {
         if (nbd_pread(reader.nbd, data, BLOCK, any(&reader) % blocks * BLOCK, 0) == -1) fail("a read");
         double to = now();
@@ -362,12 +358,8 @@ static void waits(const char *uri, double seconds, uint64_t blocks) {
     flusher.times = malloc(MOST_TIMES * sizeof *times);
     if (!flusher.times) fail("memory");
     double begun = now();
-    flusher.end = begun + seconds;
-    if (pthread_create(&flusher.thread, NULL, serve_thread, &flusher)) fail("a thread");
-    for (unsigned k = 0; k < WRITERS; k++) {
-        connections[k].end = begun + seconds;
-        if (pthread_create(&connections[k].thread, NULL, serve_thread, &connections[k])) fail("a thread");
-    }
+    begin(&flusher, begun + seconds);
+    for (unsigned k = 0; k < WRITERS; k++) begin(&connections[k], begun + seconds);
     for (unsigned k = 0; k < WRITERS; k++) {
         pthread_join(connections[k].thread, NULL);
         size_t kept = connections[k].answered < MOST_TIMES ? connections[k].answered : MOST_TIMES;
