@@ -1,12 +1,12 @@
 #!/bin/sh
-# Checks of the calls of the system that the built program NBDJ makes: that it syncs where it says so, what it does where a write or a
-# sync fails, and that what a FLUSH confirmed is found again after a kill. The last line is 'N passed, M failed'.
+# Checks of the system calls of the built program NBDJ: that it syncs when it has to, what it does if a write or a sync fails, and that
+# what a FLUSH confirmed is found again after a kill. The last line is 'N passed, M failed'.
 set -u
 here=$(CDPATH='' cd "$(dirname "$0")/.." && pwd)
 . "$here/tests/checks.sh"
-${CC:-cc} -Wall -Werror -shared -fPIC -O2 -o fail_calls.so "$here/tests/preloads/fail_calls.c" -ldl || exit 1
+preload fail_calls
 
-# called FAIL WORD..: runs the program with this call failing, none where FAIL is empty; `calls` has those that it made
+# called FAIL WORD..: runs the program; the call FAIL fails, or none if that is empty; `calls` has the calls that it made
 called() {
     rm -f calls
     fail=$1
@@ -18,13 +18,13 @@ called() {
     told
 }
 
-# found: what an opening finds, or how it is refused
+# found: what a recovery prints
 found() { "$NBDJ" recover d.img 2>&1; }
 
-# made NAME WANTED: the calls that were made
+# made NAME WANTED: compares the calls that were made
 made() { is "$1" "$2" "$(cat calls)"; }
 
-# made_until NAME WANTED FAIL: the calls that were made are these up to the one that failed, and none behind it
+# made_until NAME WANTED FAIL: these calls were made up to the one that failed, and none after it
 made_until() {
     made "$1" "$(printf '%s\n' "$2" | awk -v kind="${3% *}" -v n="${3#* }" '$1 == kind && ++met == n { print $0 " failed"; exit } { print }')"
 }
@@ -50,7 +50,7 @@ for fail in 'pwrite 1' 'pwrite 129' 'pwrite 130' 'pwrite 131' 'fdatasync 1' 'pwr
     called "$fail" format d.img --blocks 16 --area 2097152
     is "format where $fail fails" '1||nbdj: device fault (1)' "$status|$output|$errors"
     made_until "the calls of a format where $fail fails" "$format_calls" "$fail"
-    # The last sync comes when the header's gate is open already.
+    # Before the last sync the header's gate is already open.
     case $fail in
     'fdatasync 3') wanted='commands 0' ;;
     *) wanted='nbdj: no header (7)' ;;
@@ -58,14 +58,14 @@ for fail in 'pwrite 1' 'pwrite 129' 'pwrite 130' 'pwrite 131' 'fdatasync 1' 'pwr
     is "after a format where $fail failed" "$wanted" "$(found)"
 done
 
-# A new file that doesn't become an image is removed.
+# If a format fails, its new file is removed.
 rm d.img
 for fail in 'ftruncate 1' 'pwrite 1' 'pwrite 130' 'fdatasync 2'; do
     called "$fail" format d.img --blocks 16 --area 2097152
     is "a new file where $fail failed" '1|no' "$status|$([ -e d.img ] && echo yes || echo no)"
 done
 
-# A file system without locks, and one that doesn't take the length: each file stays as it was, and no call is made.
+# A file system without locks, and one that refuses the length: the file stays as it was, and no call is made.
 differing 5000000 1 >old.img
 for command in 'pipe d.img' 'recover d.img' 'check d.img' 'format d.img --size 64K --area 2M' 'format d.img --size 1G'; do
     cp old.img d.img
@@ -76,10 +76,10 @@ for command in 'pipe d.img' 'recover d.img' 'check d.img' 'format d.img --size 6
 done
 cp old.img d.img
 called 'ftruncate 1' format d.img --blocks 262144 --area 64M
-is 'a format of a length that is not taken' '1||nbdj: cannot open d.img' "$status|$output|$errors"
-same 'the file after a format of a length that is not taken' old.img d.img
+is 'a format of a length that is refused' '1||nbdj: cannot open d.img' "$status|$output|$errors"
+same 'the file after a format of a length that is refused' old.img d.img
 
-# Two WRITEs of two blocks, whose bytes differ from place to place, and a FLUSH; behind them one more WRITE and FLUSH, and the end.
+# Two WRITEs of two blocks and a FLUSH; then one more WRITE and FLUSH, and a DISC.
 differing 8192 1 >first
 differing 8192 5000003 >second
 {
@@ -96,7 +96,7 @@ differing 8192 5000003 >second
     request 0000 3 5 0 0
     request 0000 2 6 0 0
 } >requests
-# What the first FLUSH stores, as the formats spell it.
+# The group that the first FLUSH stores.
 {
     bytes '01 0000401a 0000000000000001 00000002'
     bytes '01 0000000000000002 00000002'
@@ -105,14 +105,14 @@ differing 8192 5000003 >second
     cat second
 } >group
 
-# stored NAME GATE: the group stands at the beginning of area 0, byte for byte, and the gate behind it is this byte
+# stored NAME GATE: area 0 begins with the group, and the gate after it is this byte
 stored() {
     tail -c +8193 d.img | head -c 16427 >stored
     same "$1" group stored
     is "$1: the next gate" "$2" "$(part d.img 24619 1)"
 }
 
-# The opening syncs. A group is written from behind its gate to the next gate, synced, opened by the write of a byte, and synced.
+# The opening syncs. A group is written from after its gate to the next gate, synced, opened by the write of a byte, and synced.
 pipe_calls='fdatasync
 pwrite 8193 16427
 fdatasync
@@ -135,9 +135,9 @@ made 'the calls of a recovery of an empty journal' 'fdatasync'
 called '' check d.img
 made 'the calls of a check' ''
 
-# A recovery closes the first gate of the other area and syncs; the header with both areas goes to slot 1, whose gate is closed: its
-# body, a sync, its gate, a sync. The puts are copied, the longest runs of blocks in one write each; then the map with a sync, and the
-# header with the second area alone, to slot 0, whose gate is closed first.
+# A recovery closes the first gate of the other area and syncs. The header with both areas goes to slot 1, whose gate is closed: body, sync,
+# gate, sync. The puts are copied, each longest run of blocks in one write; then the map with a sync; then the header with only the second
+# area, to slot 0, whose gate is closed first.
 recovery_calls='fdatasync
 pwrite 2105344 1
 fdatasync
@@ -164,7 +164,7 @@ fdatasync'
     cat second
     filled 16384 '\000'
 } >image
-# recovered NAME: the data region is the image, by the map that says which blocks are data
+# recovered NAME: the data region is the image, and the map says which blocks are data
 recovered() {
     tail -c 65536 d.img >found
     same "$1: the blocks" image found
@@ -191,8 +191,8 @@ cp requests input
 for fail in 'fdatasync 1' 'pwrite 1' 'fdatasync 2' 'pwrite 2' 'fdatasync 3' 'pwrite 3' 'fdatasync 4' 'pwrite 4' 'fdatasync 5'; do
     fresh 16 2097152
     called "$fail" pipe d.img
-    # No FLUSH whose sync failed is answered Ok, and after the fault all is answered EIO. Where the last sync of a group failed its gate
-    # is open in the file, and whether it would be after a power cut nobody knows.
+    # No FLUSH whose sync failed is answered Ok, and after the fault everything gets EIO. If the last sync of a group failed, its gate is open
+    # in the file; after a power cut it might not be.
     case $fail in
     'fdatasync 1') wanted='' count=0 ;;
     'pwrite 1' | 'fdatasync 2' | 'pwrite 2') wanted=$(reply 1 0)$(reply 2 0)$(reply 3 5)$(reply 4 5)$(reply 5 5) count=0 ;;
@@ -209,7 +209,7 @@ for fail in 'fdatasync 1' 'pwrite 1' 'fdatasync 2' 'pwrite 2' 'fdatasync 3' 'pwr
     esac
 done
 
-# The program is killed as soon as the reply to the FLUSH was read: by then it has synced, and what it stored is found byte for byte.
+# The program is killed as soon as the reply to the FLUSH was read: the group was synced by then, and is found.
 fresh 16 2097152
 rm -f calls
 mkfifo asked told

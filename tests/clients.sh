@@ -1,16 +1,15 @@
 #!/bin/sh
-# Checks of `nbdj serve`, by the program NBDJ, with clients that others wrote: libnbd's (nbdinfo, nbdcopy, nbdfuse, and its library under
-# tests/libnbd_client.py), QEMU's (qemu-img, qemu-io), fio, nbdkit as a proxy, nbd-client, and Linux's ext4 over nbdfuse. None is told
-# anything of blocks by an option of its own. Each that writes is met by a kill of the server too: what a FLUSH had confirmed has to be
-# there. A client that isn't installed is skipped, and the line says so; tools/install-clients installs Debian's packages. The last line is
-# 'N passed, M failed'.
+# Checks of `nbdj serve` of the built program NBDJ with other projects' clients: libnbd's (nbdinfo, nbdcopy, nbdfuse, and its library under
+# tests/libnbd_client.py), QEMU's (qemu-img, qemu-io), fio, nbdkit as a proxy, nbd-client, and Linux's ext4 over nbdfuse. None has an option
+# that sets block sizes. For each that writes, the server is also killed: what a FLUSH had confirmed has to be there. A client that isn't
+# installed is skipped, and a line says so; tools/install-clients installs Debian's packages. The last line is 'N passed, M failed'.
 set -u
 here=$(CDPATH='' cd "$(dirname "$0")/.." && pwd)
 . "$here/tests/checks.sh"
 SIZE=67108864 HALF=33554432 AREA=8388608
 mounted='' loop='' fuse='' attached='' server=''
 
-# What a run leaves behind when it is stopped midway: mounts first, since they stand on the server.
+# Cleans up, also after a run that is stopped: mounts first, because they use the server.
 release() {
     [ -z "$mounted" ] || umount "$mounted" 2>/dev/null
     [ -z "$loop" ] || losetup -d "$loop" 2>/dev/null
@@ -23,7 +22,7 @@ release() {
 trap 'release; rm -rf "$folder"' EXIT
 trap 'exit 1' HUP INT TERM
 
-# has COMMAND: whether it is installed; that it isn't is told once
+# has COMMAND: whether it is installed; says once if it isn't
 has() {
     command -v "$1" >/dev/null 2>&1 && return 0
     case " ${missing:-} " in *" $1 "*) ;; *) skipped "$1" 'it is not installed' ;; esac
@@ -31,19 +30,19 @@ has() {
     return 1
 }
 
-# python3 that knows libnbd, which is the system's own
+# The python3 that has libnbd, which is usually the system's own.
 python=''
 for candidate in python3 /usr/bin/python3; do
     "$candidate" -c 'import nbd' 2>/dev/null && python=$candidate && break
 done
-# client SECONDS COMMAND WORD..: the client of tests/libnbd_client.py
+# client SECONDS COMMAND WORD..: runs tests/libnbd_client.py
 client() {
     limit=$1
     shift
     timeout "$limit" "$python" "$here/tests/libnbd_client.py" "$@" 2>&1
 }
 
-# image: a new d.img of holes, in layout 1 and in layout 2 by turns
+# image: makes a new d.img of holes, in layout 1 and in layout 2 alternately
 layout=2
 image() {
     layout=$((3 - layout))
@@ -51,7 +50,7 @@ image() {
     "$NBDJ" format d.img --size "$SIZE" --area "$AREA" --layout "$layout" >/dev/null
 }
 
-# serves TRANSPORT WORD..: serves d.img over tcp or unix, and sets uri, and where as nbd-client has it
+# serves TRANSPORT WORD..: serves d.img over tcp or unix, and sets uri, and for nbd-client where
 serves() {
     transport=$1
     shift
@@ -60,22 +59,18 @@ serves() {
     tcp) address='--listen 127.0.0.1:0' ;;
     unix) address="--unix $folder/socket" ;;
     esac
-    # The signal of a kill goes to the program itself, whose number is kept; the limit ends it where a check hangs.
+    # (a kill goes to the program itself, by the number in server_pid; the time limit ends it if a check hangs)
     timeout 150 sh -c 'echo $$ >server_pid; exec "$@"' sh "$NBDJ" serve d.img $address "$@" >heard 2>serve_errors &
     server=$!
-    tries=0
-    while ! grep -q '^listening ' heard && [ $tries -lt 200 ] && kill -0 "$server" 2>/dev/null; do
-        sleep 0.05
-        tries=$((tries + 1))
-    done
+    await_listening 20
     case $transport in
-    tcp) uri=nbd://127.0.0.1:$(sed -n 's/^listening //p' heard) where="127.0.0.1 $(sed -n 's/^listening //p' heard)" ;;
-    unix) uri="nbd+unix:///?socket=$(sed -n 's/^listening //p' heard)" where="-unix $(sed -n 's/^listening //p' heard)" ;;
+    tcp) where="127.0.0.1 $at" ;;
+    unix) where="-unix $at" ;;
     esac
     is "$transport: the server listens" "listening" "$(cut -d ' ' -f 1 heard; grep -v '^nbdj: d.img: recovered ' serve_errors)"
 }
 
-# killed NAME: the server is killed as by a power cut, which it lived to see, and the image recovered
+# killed NAME: kills the server, which has to be alive, and recovers the image
 killed() {
     kill -9 "$(cat server_pid)" 2>/dev/null
     wait "$server" 2>wait
@@ -84,22 +79,13 @@ killed() {
     recovered "$1"
 }
 
-# recovered NAME
+# recovered NAME: recovers the image
 recovered() {
     "$NBDJ" recover d.img >output 2>errors
     is "$1: the recovery" '0|commands|' "$?|$(cut -d ' ' -f 1 output)|$(cat errors)"
 }
 
-# quiet WORD..: runs a client, at most 60 seconds; its status, and where that isn't 0 what it said
-quiet() {
-    timeout 60 "$@" >output 2>&1 </dev/null
-    status=$?
-    echo "$status"
-    [ $status -eq 0 ] || tail -n 3 output
-}
-
-# held NAME: what a recovered image holds, served again and copied to `found` (the data region alone doesn't tell: a hole's bytes may be
-# those that it had)
+# held NAME: copies the recovered image to `found`, by a server (in the file itself a hole may still have old bytes)
 held() {
     serves unix --workers 8
     if has nbdcopy; then
@@ -110,8 +96,7 @@ held() {
     killed "$1, again"
 }
 
-# The images that are copied: halves of differing bytes, with holes, data in the midst and a last block of data; the second one has other
-# bytes and other holes.
+# Two images to copy, with other bytes and other holes: half of each is data, and source_a has data in the middle and in the last block.
 differing $((SIZE / 4)) 11 >bytes_a
 differing $((SIZE / 4)) 50000017 >bytes_b
 truncate -s "$SIZE" source_a source_b
@@ -121,17 +106,17 @@ dd if=bytes_a of=source_a bs=4096 skip=1000 seek=16383 count=1 conv=notrunc 2>/d
 dd if=bytes_b of=source_b bs=4096 seek=2048 conv=notrunc 2>/dev/null
 head -c "$HALF" source_a >half_a
 head -c "$HALF" source_b >half_b
-# Where each is data and where it is a hole, as `nbdinfo --map` writes it.
+# The data and holes of source_a, as `nbdinfo --map` prints them.
 map_a='0 16777216 0 data
 16777216 25165824 3 hole,zero
 41943040 1048576 0 data
 42991616 24113152 3 hole,zero
 67104768 4096 0 data'
 
-# map: that of the export
+# map: the data and holes of the export
 map() { timeout 30 nbdinfo --map "$uri" 2>&1 | awk '{ print $1, $2, $3, $4 }'; }
 
-# What the export says of itself, and what it is asked for.
+# informs NAME: what the export says of itself
 informs() {
     if has nbdinfo; then
         is "$1: nbdinfo" 'protocol: newstyle-fixed without TLS, using structured packets
@@ -160,9 +145,9 @@ block_size_maximum: 1048576' "$(timeout 30 nbdinfo --no-content "$uri" 2>&1 | tr
     fi
 }
 
-# shell NAME: nbdsh with the Python that knows libnbd, whose first commands are those that its manual shows; and odd offsets, over a put of
-# blocks 1 and 2, of which the trim made the second a hole: what is written at byte 4,095 has a byte in block 0, and what is zeroed at byte
-# 8,191 one in block 1, which stays data, and two in block 2, which is allocated then. The last trim has block 2 alone as a whole.
+# shell NAME: nbdsh, with the Python that has libnbd. First come commands of its manual, then odd offsets, while block 1 is data and block 2 a
+# hole: the write at byte 4,095 has a byte in block 0; the zeroes at byte 8,191 have one in block 1, which stays data, and two in block 2,
+# which becomes allocated. The last trim covers only block 2.
 shell() {
     { [ -n "$python" ] && has nbdsh; } || return
     cat >commands.py <<'PYTHON'
@@ -206,7 +191,7 @@ PYTHON
         PATH="$(dirname "$(command -v "$python")"):$PATH" quiet nbdsh -c "$(cat commands.py)")|$(grep -v '^listening ' output)"
 }
 
-# Whole images in and out, with what the export then says is data; over one connection and over four.
+# Copies whole images in and out, over one connection and over four, and compares the data and holes of the export.
 copies() {
     if has nbdcopy; then
         for connections in 1 4; do
@@ -235,23 +220,22 @@ copies() {
     fi
 }
 
-# Images of any size: what is behind the last whole block goes by bytes. They are 1,000,003 bytes, and 1,954 sectors of 512, laid over an
-# image whose bytes behind them stay.
+# Copies of 1,000,003 bytes and of 1,954 sectors of 512, whose ends are no border of a block, over an image whose later bytes stay.
 odd_copies() {
     head -c 1000003 bytes_b >odd
     head -c 1000448 bytes_b >sectors
-    # The sectors 3, 8 to 10 and 1,953 of zeroes: a block of which a part is zeroed, one that is zeroed from its begin on, and the last.
+    # Sectors 3, 8 to 10 and 1,953 are zeroes: the middle of a block, the beginning of one, and the last.
     for run in '3 1' '8 3' '1953 1'; do dd if=/dev/zero of=sectors bs=512 seek=${run% *} count=${run#* } conv=notrunc 2>/dev/null; done
     if has nbdcopy; then
         is "$1: nbdcopy in before an odd copy" 0 "$(quiet nbdcopy source_a "$uri")"
         cp source_a wanted
         dd if=odd of=wanted conv=notrunc 2>/dev/null
         is "$1: nbdcopy of 1,000,003 bytes" 0 "$(quiet nbdcopy --flush odd "$uri")"
-        is "$1: nbdcopy out behind it" 0 "$(quiet nbdcopy "$uri" found)"
+        is "$1: nbdcopy out after it" 0 "$(quiet nbdcopy "$uri" found)"
         same "$1: what nbdcopy copied of 1,000,003 bytes" wanted found
         dd if=sectors of=wanted conv=notrunc 2>/dev/null
         is "$1: nbdcopy of 1,954 sectors" 0 "$(quiet nbdcopy --sparse=512 --connections=4 --flush sectors "$uri")"
-        is "$1: nbdcopy out behind the sectors" 0 "$(quiet nbdcopy "$uri" found)"
+        is "$1: nbdcopy out after the sectors" 0 "$(quiet nbdcopy "$uri" found)"
         same "$1: what nbdcopy copied of sectors" wanted found
     fi
     if has qemu-img; then
@@ -259,14 +243,14 @@ odd_copies() {
         cp source_a wanted
         dd if=sectors of=wanted conv=notrunc 2>/dev/null
         is "$1: qemu-img convert of 1,954 sectors" 0 "$(quiet qemu-img convert -n -S 512 -f raw -O raw sectors "$uri")"
-        is "$1: qemu-img compare behind the sectors" 0 "$(quiet qemu-img compare -f raw -F raw wanted "$uri")"
+        is "$1: qemu-img compare after the sectors" 0 "$(quiet qemu-img compare -f raw -F raw wanted "$uri")"
         is "$1: qemu-img dd of 100 sectors" 0 "$(quiet qemu-img dd -f raw -O raw bs=512 skip=1900 count=2000 if="$uri" of=found)"
         tail -c +$((1900 * 512 + 1)) wanted | head -c 51200 >found_wanted
         same "$1: the 100 sectors" found_wanted found
     fi
 }
 
-# QEMU's requests one by one, also of sectors and of any bytes. What has to come of them is made with dd.
+# Single requests of QEMU, also of sectors and of any bytes; dd makes what the image has to hold.
 pokes() {
     has qemu-io || return
     head -c 131072 bytes_b >piece
@@ -291,11 +275,11 @@ pokes() {
         filled 512 '\\' | dd of=wanted bs=512 seek=78140 conv=notrunc
         dd if=/dev/zero of=wanted bs=512 seek=80079 count=1 conv=notrunc
     } 2>/dev/null
-    is "$1: the image behind qemu-io" 0 "$(quiet qemu-img convert -f raw -O raw "$uri" found)"
+    is "$1: the image after qemu-io" 0 "$(quiet qemu-img convert -f raw -O raw "$uri" found)"
     same "$1: what qemu-io wrote" wanted found
 }
 
-# All commands and flags, with structured replies and without.
+# All commands and flags, with structured replies and with simple ones.
 asks() {
     if [ -z "$python" ]; then
         skipped "$1: libnbd in Python" 'python3-libnbd is not installed'
@@ -308,7 +292,7 @@ asks() {
     is "$1: a client that doesn't ask for sizes" ok "$(client 30 unasked "$uri")"
 }
 
-# proxied NAME: nbdkit between a client and the server, which passes on what it is told of sizes
+# proxied NAME: nbdkit between a client and the server, which passes block sizes on
 proxied() {
     has nbdkit && has nbdcopy || return
     is "$1: nbdkit as a proxy: nbdinfo" '1|4096|1048576' "$(timeout 60 nbdkit -U - nbd uri="$uri" --run 'nbdinfo --no-content "$uri"' 2>&1 |
@@ -327,8 +311,8 @@ proxied() {
     fi
 }
 
-# kernel NAME: nbd-client, which never asks for sizes: its list; its handshake by GO and by EXPORT_NAME, behind which it asks the kernel to
-# take the connection, which for a file is refused; and the kernel's device where there is one.
+# kernel NAME: nbd-client, which never asks for block sizes: its list; its handshake by GO and by EXPORT_NAME, after which the kernel refuses to
+# use a file as a device; and the kernel's device, if there is one.
 kernel() {
     has nbd-client || return
     is "$1: nbd-client -l" '0|Negotiation: ..|' "$(quiet nbd-client -l $where)|$(paste -s -d '|' output)"
@@ -350,7 +334,7 @@ kernel() {
     cp source_a wanted
     dd if=sectors of=wanted conv=notrunc 2>/dev/null
     same "$1: what the kernel's device holds" wanted /dev/nbd0
-    is "$1: nbd-client lets it go" 0 "$(quiet nbd-client -d /dev/nbd0)"
+    is "$1: nbd-client releases it" 0 "$(quiet nbd-client -d /dev/nbd0)"
     attached=''
 }
 
@@ -366,18 +350,18 @@ for transport in tcp unix; do
     proxied $transport
     kernel $transport
     if has nbdcopy; then
-        # (nothing is sent behind the FLUSH of nbdcopy, so the kill may take none of it)
+        # (the FLUSH of nbdcopy comes last, so the kill may lose nothing)
         is "$transport: nbdcopy in before a kill" 0 "$(quiet nbdcopy --flush source_b "$uri")"
-        killed "$transport: behind nbdcopy"
-        held "$transport: behind nbdcopy"
+        killed "$transport: after nbdcopy"
+        held "$transport: after nbdcopy"
         same "$transport: the image after the kill" source_b found
     else
         killed "$transport: the end"
     fi
 done
 
-# counted NAME BYTES COMMAND WORD..: requests reach the server as they are; no client reads or writes more than it has to. URI stands for that
-# of the server, and BYTES is what this counts of one session.
+# counted NAME BYTES COMMAND WORD..: a client reads and writes no more bytes than it has to, as the server counts them in one session. URI
+# stands for that of the server.
 counted() {
     name=$1 wanted=$2
     shift 2
@@ -398,7 +382,7 @@ if has qemu-io; then
         -c 'read -P 0x51 512 512' -c 'read -P 0x52 8192 512' URI
     counted 'bytes of qemu-io' '5 bytes read and 4 written' qemu-io -f raw -c 'write -P 0x51 4095 3' -c 'write -P 0x52 4094 1' -c 'read -P 0x51 4095 3' \
         -c 'read -P 0 4093 1' -c 'read -P 0x52 4094 1' URI
-    # (it parts what is longer than 1 MiB)
+    # (it splits what is longer than 1 MiB)
     counted '8 MiB of qemu-io at byte 3' '8388608 bytes read and 8388608 written' qemu-io -f raw -c 'write -P 7 3 8M' -c 'read -P 7 3 8M' URI
 fi
 if has qemu-img; then
@@ -410,7 +394,7 @@ if has nbdcopy; then
     counted 'bytes of nbdcopy' '0 bytes read and 1000003 written' nbdcopy --connections=1 odd URI
 fi
 
-# Writethrough: what was answered is there, without any FLUSH.
+# In writethrough answered writes are there without a FLUSH.
 if has nbdcopy; then
     image
     serves unix --cache writethrough
@@ -420,7 +404,7 @@ if has nbdcopy; then
     same 'writethrough: the image after the kill' source_a found
 fi
 
-# What no client has flushed is stored once its session is over, whatever signal comes then.
+# Unflushed writes are stored once their session is over, whatever signal comes then.
 if has nbdcopy; then
     head -c 3145728 bytes_a >three
     for signal in TERM KILL; do
@@ -431,20 +415,20 @@ if has nbdcopy; then
         kill -$signal "$(cat server_pid)"
         wait "$server" 2>wait
         server=''
-        recovered "$signal behind a copy"
+        recovered "$signal after a copy"
         is "$signal: there are commands" yes "$([ "$(cut -d ' ' -f 2 output)" -gt 0 ] && echo yes)"
-        held "$signal behind a copy"
+        held "$signal after a copy"
         head -c 3145728 found >found_three
         same "$signal: the 3 MiB" three found_three
     done
 fi
 
-# A disk that is full: the server tells why, ends its sessions and itself, and goes on where it is started anew with room.
+# A full disk: the server says why, and ends; with space it starts again.
 full_disk() {
     small=$folder/small
     mkdir "$small"
     if ! mount -t tmpfs -o size=12m tmpfs "$small" 2>/dev/null; then
-        skipped 'a full disk' 'this system lets nobody mount'
+        skipped 'a full disk' 'nothing can be mounted here'
         return
     fi
     "$NBDJ" format "$small/d.img" --size 64M --area 2M >/dev/null
@@ -473,7 +457,7 @@ full_disk() {
 }
 if has nbdcopy; then full_disk; fi
 
-# A block device, as a loop device is one.
+# A block device: a loop device.
 block_device() {
     truncate -s 160M disk
     loop=$(losetup -f --show disk 2>/dev/null)
@@ -500,7 +484,7 @@ block_device() {
 }
 if has nbdcopy && has losetup; then block_device; fi
 
-# The end by itself: behind the last session all is stored, and the status is 0.
+# After the last session the server stores everything and ends with status 0.
 if has qemu-io; then
     image
     serves unix --sessions 2
@@ -508,25 +492,21 @@ if has qemu-io; then
     for at in 1M 3M; do
         is "a session of two at $at" 0 "$(quiet qemu-io -f raw -t unsafe -c "write -s piece $at 128k" "$uri")"
     done
-    tries=0
-    while kill -0 "$server" 2>/dev/null && [ $tries -lt 400 ]; do
-        sleep 0.05
-        tries=$((tries + 1))
-    done
+    wait_for 20 is_gone "$server"
     kill "$server" 2>/dev/null
     wait "$server" 2>wait
-    is 'the end behind two sessions' '0||no' "$?|$(cat serve_errors)|$([ -e socket ] && echo yes || echo no)"
+    is 'the end after two sessions' '0||no' "$?|$(cat serve_errors)|$([ -e socket ] && echo yes || echo no)"
     server=''
-    recovered 'behind two sessions'
-    held 'behind two sessions'
+    recovered 'after two sessions'
+    held 'after two sessions'
     rm -f wanted
     truncate -s "$SIZE" wanted
     dd if=piece of=wanted bs=1M seek=1 conv=notrunc 2>/dev/null
     dd if=piece of=wanted bs=1M seek=3 conv=notrunc 2>/dev/null
-    same 'the image behind two sessions' wanted found
+    same 'the image after two sessions' wanted found
 fi
 
-# Addresses that can't be listened on, and an image in use: the server that has them goes on.
+# Addresses that can't be listened on, and an image in use: the server that has them is not disturbed.
 image
 "$NBDJ" format other.img --size 64K --area 2M >/dev/null
 # refused NAME STATUS ERRORS WORD..: a second server is refused
@@ -541,19 +521,19 @@ port=${uri##*:}
 refused 'a port in use' 1 "nbdj: 127.0.0.1:$port: Address already in use (os error 98)|nbdj: stream fault (21)" other.img --listen "127.0.0.1:$port"
 refused 'no port' 1 'nbdj: 127.0.0.1:: invalid port value|nbdj: stream fault (21)' other.img --listen 127.0.0.1:
 refused 'an image in use' 4 'nbdj: d.img: another process has locked it|nbdj: d.img is in use' d.img --listen 127.0.0.1:0
-killed 'behind a port in use'
+killed 'after a port in use'
 serves unix
 refused 'a socket in use' 1 'nbdj: socket: Address already in use (os error 98)|nbdj: stream fault (21)' other.img --unix socket
 : >file
-refused 'a socket where a file is' 1 'nbdj: file: Address already in use (os error 98)|nbdj: stream fault (21)' other.img --unix file
-is 'the file where a socket was wanted' yes "$([ -f file ] && echo yes)"
+refused 'a file in place of the socket' 1 'nbdj: file: Address already in use (os error 98)|nbdj: stream fault (21)' other.img --unix file
+is 'the file in place of the socket' yes "$([ -f file ] && echo yes)"
 refused 'a socket in no folder' 1 'nbdj: none/socket: No such file or directory (os error 2)|nbdj: stream fault (21)' other.img --unix none/socket
 if has nbdinfo; then
     is 'the server of the socket in use' 67108864 "$(timeout 20 nbdinfo --size "$uri" 2>&1)"
 fi
-killed 'behind a socket in use'
+killed 'after a socket in use'
 
-# fio's own check of what it wrote: four jobs, each over a connection of its own.
+# fio checks what it wrote: four jobs, each over its own connection.
 fio_job() {
     timeout 60 fio --name=job --ioengine=nbd --uri="$uri" --bs=4k --size=8m --numjobs=4 --offset_increment=8m --iodepth=16 --group_reporting "$@" >output 2>&1
 }
@@ -568,8 +548,8 @@ if has_fio; then
     serves tcp --workers 8
     fio_job --rw=randwrite --verify=crc32c --do_verify=1 --verify_fatal=1 --end_fsync=1
     is 'fio writes and verifies' '0|0' "$?|$(grep -c 'verify: bad' output)"
-    # What fio finds after a kill it had flushed; a block that was changed it doesn't take.
-    killed 'behind fio'
+    # fio finds what it had flushed before a kill, and notices a changed block.
+    killed 'after fio'
     serves tcp --workers 8
     fio_job --rw=randwrite --verify=crc32c --verify_only --verify_fatal=1
     is 'fio verifies after the kill' '0|0' "$?|$(grep -c 'verify: bad' output)"
@@ -578,38 +558,38 @@ if has_fio; then
         fio_job --rw=randwrite --verify=crc32c --verify_only --verify_fatal=1
         is 'fio finds the byte' yes "$([ $? -ne 0 ] && grep -q 'verify: bad\|crc32c: verify failed' output && echo yes)"
     fi
-    killed 'behind the second fio'
+    killed 'after the second fio'
     # The same by sectors: requests of 512 bytes to 8 KiB, at any sector.
     image
     serves tcp --workers 8
     fio_job --bsrange=512-8k --rw=randwrite --verify=crc32c --do_verify=1 --verify_fatal=1 --end_fsync=1
     is 'fio writes sectors and verifies' '0|0' "$?|$(grep -c 'verify: bad' output)"
-    killed 'behind fio by sectors'
+    killed 'after fio by sectors'
     serves tcp --workers 8
     fio_job --bsrange=512-8k --rw=randwrite --verify=crc32c --verify_only --verify_fatal=1
     is 'fio verifies sectors after the kill' '0|0' "$?|$(grep -c 'verify: bad' output)"
     fio_job --bsrange=512-8k --rw=randrw --rwmixread=50 --verify=crc32c --do_verify=1 --verify_fatal=1
     is 'fio reads and writes sectors' '0|0' "$?|$(grep -c 'verify: bad' output)"
-    killed 'behind the second fio by sectors'
+    killed 'after the second fio by sectors'
 fi
 
-# What each client does again and again, until the kill: the first half of the image from the one source and from the other in turn.
+# What each client repeats until the kill: it writes the first half of the image from one source, then from the other.
 nbdcopy_half() { timeout 30 nbdcopy --connections=4 --flush "half_$1" "$uri"; }
 qemu_img_half() { timeout 30 qemu-img convert -n -f raw -O raw "half_$1" "$uri"; }
 qemu_io_half() { timeout 30 qemu-io -f raw -c "write -s half_$1 0 32M" -c flush "$uri"; }
 fio_half() { timeout 30 fio --name=job --ioengine=nbd --uri="$uri" --rw=write --bs=64k --size=8m --numjobs=4 --offset_increment=8m --buffer_pattern="'half_$1'" --iodepth=8; }
 
-# midst NAME TRANSPORT CLIENT: the server is killed while the client writes half the image and libnbd's library the other half, over four
-# connections. Of that half is kept what a FLUSH or FUA had acknowledged; each block of the first half is of the one source or the other.
-midst() {
-    name="a kill in the midst of $1"
+# kill_under NAME TRANSPORT CLIENT: kills the server while the client writes one half of the image, and libnbd's library the other half over
+# four connections. In that half everything confirmed has to be there; each block of the first half is from one of the two sources.
+kill_under() {
+    name="a kill during $1"
     image
     serves "$2" --workers 12
     is "$name: the first copy" 0 "$(quiet nbdcopy --flush half_a "$uri")"
     rm -f early
     (
         while "$3" b && "$3" a; do :; done
-        # (that it ended while the server lived would be a fault of the client; one that was killed is there until it is waited for)
+        # (the client failed if it ended while the server lived; a killed server is a zombie until it is waited for)
         sleep 0.5
         if kill -0 "$(cat server_pid)" 2>/dev/null; then echo early >early; fi
     ) >writer_output 2>&1 &
@@ -621,7 +601,7 @@ midst() {
     killed "$name"
     serves "$2" --workers 12
     verified=$(client 60 verify "$uri" log)
-    is "$name: what was acknowledged" ok "$(echo "$verified" | sed 's/^\(ok\) .*/\1/')"
+    is "$name: what was confirmed" ok "$(echo "$verified" | sed 's/^\(ok\) .*/\1/')"
     echo "$name: ${flooded#ok }; ${verified#ok }"
     # (fio's blocks aren't those of a file)
     if [ "$3" != fio_half ]; then
@@ -631,36 +611,29 @@ midst() {
     killed "$name, again"
 }
 if [ -n "$python" ] && has nbdcopy; then
-    midst nbdcopy tcp nbdcopy_half
-    if has qemu-img; then midst 'qemu-img convert' unix qemu_img_half; fi
-    if has qemu-io; then midst qemu-io tcp qemu_io_half; fi
-    if has_fio; then midst fio unix fio_half; fi
+    kill_under nbdcopy tcp nbdcopy_half
+    if has qemu-img; then kill_under 'qemu-img convert' unix qemu_img_half; fi
+    if has qemu-io; then kill_under qemu-io tcp qemu_io_half; fi
+    if has_fio; then kill_under fio unix fio_half; fi
 else
-    skipped 'a kill in the midst of each client' 'nbdcopy or python3-libnbd is not installed'
+    skipped 'a kill during each client' 'nbdcopy or python3-libnbd is not installed'
 fi
 
-# A file system: nbdfuse makes a file of the export, on which mke2fs writes as it likes, and which is mounted by a loop device. A block of the
-# file system has 1,024 bytes. The server is killed after some files were synced, while more are written.
+# A file system with blocks of 1,024 bytes, over a loop device over nbdfuse. The server is killed after some files were synced, while more are
+# written.
 file_of() {
     timeout 120 nbdfuse -P fuse_pid export "$uri" >fuse_output 2>&1 &
     fuser=$!
     fuse=$folder/export
-    tries=0
-    while [ ! -e export/nbd ] && [ $tries -lt 100 ] && kill -0 $fuser 2>/dev/null; do
-        sleep 0.05
-        tries=$((tries + 1))
-    done
+    wait_for 10 is_exported_or_gone
     [ -e export/nbd ]
 }
-# released: the file system is let go, and so is all that it stands on
+is_exported_or_gone() { [ -e export/nbd ] || is_gone $fuser; }
+# released: unmounts the file system and the export
 released() {
     [ -z "$mounted" ] || timeout 30 umount "$mounted" 2>/dev/null
-    # (its loop device is let go a moment later)
-    tries=0
-    while [ $tries -lt 100 ] && ! umount "$fuse" 2>/dev/null; do
-        sleep 0.05
-        tries=$((tries + 1))
-    done
+    # (its loop device is released a moment later)
+    wait_for 10 umount "$fuse" 2>/dev/null
     wait $fuser 2>wait
     mounted='' fuse=''
 }
@@ -683,7 +656,7 @@ file_system() {
             cp tree/below/file_$k mount/synced_$k
             sync mount/synced_$k mount
         done
-        # The kill comes while files are written and synced one after another; those that were synced before it are in `synced`.
+        # The kill comes while files are written and synced one after another; `synced` lists those synced before it.
         : >synced
         (
             k=100
@@ -693,17 +666,13 @@ file_system() {
             done
         ) >>synced 2>/dev/null &
         writer=$!
-        tries=0
-        while [ "$(wc -l <synced)" -lt 10 ] && [ $tries -lt 200 ]; do
-            sleep 0.05
-            tries=$((tries + 1))
-        done
+        wait_for 20 has_lines synced 10
         kill -9 "$(cat server_pid)"
         wait $writer
         released
         killed 'a file system'
         held 'a file system'
-        # The first run of e2fsck replays ext4's journal (1: it changed something); the second finds nothing to mend.
+        # The first run of e2fsck replays ext4's journal (status 1: it changed something); the second finds nothing wrong.
         timeout 30 e2fsck -p found >output 2>&1
         is 'e2fsck replays the journal' yes "$([ $? -le 1 ] && echo yes)"
         is 'e2fsck after the kill' 0 "$(quiet e2fsck -fn found)"
@@ -711,7 +680,7 @@ file_system() {
             debugfs -R "dump synced_$k out" found >output 2>&1
             same "the synced file $k" tree/below/file_$k out
         done
-        is 'files were synced up to the kill' yes "$([ "$(wc -l <synced)" -ge 10 ] && echo yes)"
+        is 'files were synced up to the kill' yes "$(has_lines synced 10 && echo yes)"
         differ=''
         for k in $(cat synced); do
             rm -f out
@@ -719,7 +688,7 @@ file_system() {
             cmp -s tree/below/file_8 out || differ="$differ $k"
         done
         is 'the files that were synced before the kill' '' "$differ"
-        echo "a kill in the midst of ext4: $(wc -l <synced) files were synced before it"
+        echo "a kill during writes to ext4: $(wc -l <synced) files were synced before it"
     else
         skipped 'ext4 mounted' 'this system lets nobody mount, or has no loop device'
         released

@@ -20,7 +20,7 @@ ENVIRONMENT = {**os.environ, "LC_ALL": "C", "PATH": "/usr/sbin:/usr/bin:/sbin:/b
 
 
 def run(words, seconds=120, check=True, **settings):
-    """Runs a command; what it printed. One that fails raises, unless it may fail: then its status comes too."""
+    """Runs a command; its output. If it fails, a RuntimeError; with check=False the status and the output instead."""
     found = subprocess.run(words, stdin=subprocess.DEVNULL, stdout=subprocess.PIPE, stderr=subprocess.STDOUT, timeout=seconds, env=ENVIRONMENT, **settings)
     text = found.stdout.decode(errors="replace")
     if not check:
@@ -67,7 +67,7 @@ class CutDisk:
                     pass
 
     def negotiate(self, client):
-        """The handshake; whether requests come."""
+        """Makes the handshake; whether requests follow."""
         client.sendall(b"NBDMAGICIHAVEOPT\0\3")
         take(client, 4)
         while True:
@@ -90,7 +90,7 @@ class CutDisk:
                 tell(0x80000001)
 
     def answer(self, client):
-        """Answers a request; whether another one comes."""
+        """Answers a request; whether another one may follow."""
         flags, kind, cookie, offset, length = struct.unpack(">4xHHQQI", take(client, 28))
         data = take(client, length) if kind == WRITE else bytes(length)
         if kind == DISC:
@@ -155,13 +155,13 @@ class CutDisk:
 
 
 def is_mounted(folder):
-    """Also where the process of the mount is gone, which os.path.ismount doesn't tell."""
+    """Also true if the process of the mount is gone, unlike os.path.ismount."""
     with open("/proc/self/mounts", encoding="utf-8") as lines:
         return any(line.split()[1] == os.path.realpath(folder) for line in lines)
 
 
 def mount_export(uri, folder, connections=4):
-    """The process of nbdfuse that shows an export as the file `nbd` of a folder."""
+    """Starts nbdfuse, which shows an export as the file `nbd` of a folder; its process."""
     os.makedirs(folder, exist_ok=True)
     process = subprocess.Popen(["nbdfuse", "-C", str(connections), folder, uri], env=ENVIRONMENT, stdin=subprocess.DEVNULL, stdout=subprocess.DEVNULL, stderr=subprocess.DEVNULL)
     for _ in range(1500):
@@ -190,7 +190,7 @@ def unmount_export(folder, process):
         process.wait()
 
 
-def awaited(path, process):
+def await_socket(path, process):
     """Waits for a server's socket."""
     for _ in range(6000):
         if os.path.exists(path):
@@ -202,8 +202,8 @@ def awaited(path, process):
 
 
 class Chain:
-    """A file system over a server, all below a folder. `serve` gives the server's words for an image and a socket. The image is a file on a disk that
-    can be cut, or a plain one."""
+    """A file system over a server, in one folder. `serve` returns the words that start a server of an image at a socket. The image is a file on a
+    disk that can be cut, or a plain one."""
 
     def __init__(self, folder, disk, serve, options, image=None, environment=None):
         os.makedirs(folder, exist_ok=True)
@@ -216,7 +216,7 @@ class Chain:
             os.unlink(path)
         self.log = open(f"{folder}/server.log", "ab")
         self.server = subprocess.Popen(serve(image, path), env={**ENVIRONMENT, **(environment or {})}, stdin=subprocess.DEVNULL, stdout=self.log, stderr=self.log)
-        awaited(path, self.server)
+        await_socket(path, self.server)
         self.front = mount_export(f"nbd+unix:///?socket={path}", f"{folder}/front")
         self.loop = run(["losetup", "-f", "--show", "--direct-io=on", f"{folder}/front/nbd"]).strip()
         # (a loop device keeps this when it gets another file)
@@ -225,12 +225,12 @@ class Chain:
         run(["mount", "-t", "ext4", "-o", options, self.loop, self.mount])
 
     def keep_cache(self):
-        """Has the kernel send flushes."""
+        """Makes the kernel send flushes."""
         with open(f"/sys/block/{os.path.basename(self.loop)}/queue/write_cache", "w", encoding="ascii") as file:
             file.write("write back")
 
     def cut(self):
-        """Stops server and disk at one moment, which it gives. The server never goes on."""
+        """Stops server and disk at one moment; that moment. The server never runs again."""
         moment = time.time()
         os.kill(self.server.pid, signal.SIGSTOP)
         self.disk.freeze()
@@ -252,11 +252,11 @@ class Chain:
 
 
 def isolate(path, words):
-    """Goes on in a mount namespace of its own, so that no other process keeps a mount busy."""
+    """Runs the script in a mount namespace of its own, so that no other process keeps a mount busy."""
     if not os.environ.get("CUTS_ISOLATED"):
         os.environ["CUTS_ISOLATED"] = "1"
         os.execvp("unshare", ["unshare", "-m", "--propagation", "private", "python3", path, *words])
 
 
-def drawn_from(seed, turn):
+def random_from(seed, turn):
     return random.Random(seed * 1000 + turn)

@@ -1,43 +1,24 @@
 #!/usr/bin/env python3
-"""Streams of `pipe` and `rehearse` of the built program NBDJ that come in pieces, end anywhere, or fail. What has to be printed was written by
+"""Streams of `pipe` and `rehearse` of the built program NBDJ that come in pieces, end anywhere, or fail. The expected output was written by
 hand. Prints a line for each check that fails, and last 'N passed, M failed'.
 """
 import os
 import resource
 import signal
 import socket
-import struct
 import subprocess
 import sys
 import tempfile
 
-NBDJ = os.environ["NBDJ"]
-BLOCK, WRITE, DISC, FLUSH, NO_SPACE = 4096, 1, 2, 3, 28
-passed, failed = 0, 0
+import checks
+from checks import BLOCK, DISC, ENOSPC, FLUSH, NBDJ, WRITE, check, format_image, reply, request
 
 SCRIPT = b"format 16 2097152 512\nsend 1 put 0 1 41\nserve 1\nanswer 1\nseal\ncrash at 3 01\nappend\n"
 PRINTED = b"done\ndone\ndone\nanswer 1 ok\ndone\narmed\nstopped\nopened 1\nrun 0 1 d 41\nrun 1 15 h 00\n"
 
 
-def check(name, wanted, got):
-    global passed, failed
-    if wanted == got:
-        passed += 1
-    else:
-        failed += 1
-        print(f"FAILED {name}\n  wanted: {wanted}\n  got:    {got}", flush=True)
-
-
-def request(kind, cookie, offset, data):
-    return struct.pack(">IHHQQI", 0x25609513, 0, kind, cookie, offset, len(data)) + data
-
-
-def reply(cookie, error=0):
-    return struct.pack(">IIQ", 0x67446698, error, cookie)
-
-
 def run(words, pieces, **settings):
-    """The status, the output and the errors of a run over an input that comes in these pieces."""
+    """The status, the output and the errors of a run whose input comes in these pieces."""
     one, other = socket.socketpair()
     with one, other, tempfile.TemporaryFile() as output, tempfile.TemporaryFile() as errors:
         settings = {"stdout": output, "stderr": errors, **settings}
@@ -53,10 +34,10 @@ def run(words, pieces, **settings):
 
 
 def cut_streams():
-    """A FLUSH, a WRITE that goes past the end, and a DISC, cut in two at each place, and ended there."""
-    subprocess.run([NBDJ, "format", "d.img", "--blocks", "16", "--area", "2097152"], check=True, stdout=subprocess.DEVNULL)
-    requests = [request(FLUSH, 1, 0, b""), request(WRITE, 2, 16 * BLOCK - 99, bytes(100)), request(DISC, 3, 0, b"")]
-    stream, replies = b"".join(requests), [reply(1), reply(2, NO_SPACE)]
+    """A FLUSH, a WRITE past the end, and a DISC: split at each place, and ended there."""
+    format_image("d.img", "--blocks", "16", "--area", "2097152")
+    requests = [request(FLUSH, 1), request(WRITE, 2, 16 * BLOCK - 99, 100) + bytes(100), request(DISC, 3)]
+    stream, replies = b"".join(requests), [reply(1), reply(2, ENOSPC)]
     ends = [len(requests[0]), len(requests[0] + requests[1])]
     for place in range(len(stream)):
         check(f"cut at {place}", (0, b"".join(replies), b""), run(["pipe", "d.img"], [stream[:place], stream[place:]]))
@@ -79,7 +60,7 @@ def scripts():
             done = subprocess.run([NBDJ, "rehearse"], input=SCRIPT, stdout=output, stderr=subprocess.PIPE, preexec_fn=limited, restore_signals=False, timeout=60)
             output.seek(0)
             check(f"an output with room for {room} bytes", (1, PRINTED[:room], b"nbdj: stream fault (21)\n"), (done.returncode, output.read(), done.stderr))
-    # A peer that goes with bytes unread resets the connection, which is met behind what it sent.
+    # A peer that closes with bytes unread resets the connection; the reset comes after what it sent.
     one, other = socket.socketpair()
     other.sendall(b"unread")
     one.sendall(b"format 16 2097152 512\nsend 1 flush\nserve")
@@ -94,8 +75,7 @@ def main():
         os.chdir(folder)
         cut_streams()
         scripts()
-    print(f"{passed} passed, {failed} failed")
-    return failed > 0
+    return checks.finish()
 
 
 if __name__ == "__main__":

@@ -1,8 +1,8 @@
 #!/usr/bin/env python3
 """Databases under load, and how they are judged after a power cut: SQLite, and PostgreSQL and MariaDB if they are installed.
 
-Each load commits rows numbered 1, 2, .. and moves money between accounts. So after a cut no number may be missing before the last one, and
-the sum of all accounts stays.
+Each load commits rows numbered 1, 2, .. and moves money between accounts. After a cut no number may be missing before the last one, and the
+sum of all accounts must be the same.
 """
 import contextlib
 import hashlib
@@ -16,7 +16,7 @@ import sys
 import threading
 import time
 
-from cut_chain import ENVIRONMENT, run
+from cut_chain import ENVIRONMENT, run, unmount
 
 ACCOUNTS = 1000
 
@@ -26,7 +26,7 @@ def text_of(number):
 
 
 class Commits:
-    """When each number was told to be committed, kept outside of the disk under test."""
+    """When each commit was confirmed, kept outside of the disk under test."""
 
     def __init__(self):
         self.moments = []
@@ -39,7 +39,7 @@ class Commits:
         threading.Thread(target=note, daemon=True).start()
 
     def lost(self, found, cut):
-        """How many commits that were told before a cut are missing, and the seconds from the first of them to the cut."""
+        """How many commits that were confirmed before a cut are missing, and the seconds from the first of them to the cut."""
         told = [moment for moment in self.moments if moment <= cut]
         if found >= len(told):
             return 0, 0.0
@@ -91,6 +91,19 @@ def is_alive(process):
         return False
 
 
+def make_file_system(folder, raw, databases):
+    """Makes ext4 with the databases in a file."""
+    mount = f"{folder}/prepared"
+    run(["mkfs.ext4", "-q", "-F", "-E", "nodiscard,lazy_itable_init=0,lazy_journal_init=0", raw])
+    os.makedirs(mount)
+    run(["mount", "-o", "loop", raw, mount])
+    try:
+        for database in databases:
+            database.make(mount, f"{folder}/room")
+    finally:
+        unmount(mount)
+
+
 class Sqlite:
     """A database of SQLite in a journal mode. `DELETE` wants EXTRA: FULL doesn't sync the removal that commits."""
 
@@ -122,7 +135,7 @@ class Sqlite:
         return connection
 
     def start(self, folder, room):
-        """Commits until it is killed; what it has committed."""
+        """Starts a process that commits until it is killed; its commits."""
         process = subprocess.Popen([sys.executable, os.path.abspath(__file__), "load", self.name, self.mode, folder], env=ENVIRONMENT, stdin=subprocess.DEVNULL,
                                    stdout=subprocess.PIPE, stderr=subprocess.DEVNULL)
         self.process = process
@@ -173,14 +186,14 @@ class Sqlite:
 
 
 class Postgres:
-    """A cluster of PostgreSQL beside pgbench, which checkpoints every 1.5 s. Its pages have checksums, and full_page_writes is on as by default."""
+    """A cluster of PostgreSQL that checkpoints every 1.5 s, under pgbench and a client of its own. Its pages have checksums, and full_page_writes is on as by default."""
 
     name = "postgres"
     programs = "/usr/lib/postgresql/15/bin"
     is_there = os.path.exists(f"{programs}/initdb") and os.path.exists(f"{programs}/pg_amcheck")
 
     def command(self, *words, **settings):
-        """One of its programs, as the user that it wants."""
+        """Runs one of its programs, as the user postgres."""
         return run(["runuser", "-u", "postgres", "--", f"{self.programs}/{words[0]}", *words[1:]], cwd="/", **settings)
 
     def make(self, folder, room):
@@ -235,7 +248,7 @@ class Postgres:
     def judge(self, folder, room):
         wrong, last = [], 0
         for path in (f"{folder}/postgres/postmaster.pid", f"{room}/.s.PGSQL.5432.lock", f"{room}/.s.PGSQL.5432"):
-            # (of the server that was killed: its number may be another process's by now)
+            # (of the killed server, whose number may belong to another process now)
             with contextlib.suppress(FileNotFoundError):
                 os.unlink(path)
         try:

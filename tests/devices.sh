@@ -1,6 +1,6 @@
 #!/bin/sh
-# Checks of the built program NBDJ on block devices that something else uses, on devices and files that hold data, and on full disks: with
-# loop devices, as root. What can't be tried here is skipped by name. The last line is 'N passed, M failed'.
+# Checks of the built program NBDJ on block devices in use, on devices and files that hold data, and on full disks, with loop devices, as
+# root. What can't be tried here is skipped by name. The last line is 'N passed, M failed'.
 set -u
 here=$(CDPATH='' cd "$(dirname "$0")/.." && pwd)
 . "$here/tests/checks.sh"
@@ -16,16 +16,16 @@ clean_up() {
 }
 trap 'clean_up 2>/dev/null' EXIT
 
-# loop_on FILE: a loop device on a file, in `loop`
+# loop_on FILE: makes a loop device on a file, and sets `loop`
 loop_on() {
     loop=$(losetup -f --show "$1" 2>/dev/null) || return 1
     loops="$loops $loop"
 }
 loop_off() { losetup -d "$1" && loops=$(printf '%s' "$loops" | sed "s| $1\$||; s| $1 | |"); }
 
-# in_use NAME PATH REASON: each command refuses a path as in use, tells why, and leaves its bytes
+# in_use NAME PATH REASON: each command refuses a path as in use, says why, and leaves its bytes
 in_use() {
-    # (of a device that is in use more may change by itself)
+    # (more of a device in use may change by itself)
     head -c 4096 "$2" | cksum >before
     for command in 'recover -v' 'upgrade -v' 'pipe -v' 'serve --unix d.sock' 'format -v --force --size 1M --area 2M' 'format -v --blocks 16 --area 2M'; do
         timeout 20 "$NBDJ" $command "$2" <input >output 2>errors
@@ -35,7 +35,7 @@ in_use() {
     is "$1: its bytes" "$(cat before)" "$(head -c 4096 "$2" | cksum)"
 }
 
-# used DEVICE FILE: what uses a block device, by the device's own node, by another one, and by the file behind it
+# used DEVICE FILE: a device in use, by its own node, by another node, and by the file behind it
 used() {
     mkdir mounted
     if mkfs.ext4 -q -F "$1" 2>/dev/null && mount -o ro "$1" mounted; then
@@ -44,7 +44,7 @@ used() {
         mknod other_node b $((0x$(stat -L -c %t "$1"))) $((0x$(stat -L -c %T "$1")))
         in_use 'another node of a mounted device' other_node 'a file system on it is mounted'
         in_use 'the file behind a mounted device' "$2" 'a file system on it is mounted'
-        is 'what is mounted' ext4 "$(stat -f -c %T mounted | sed 's,ext2/ext3,ext4,')"
+        is 'the mounted file system' ext4 "$(stat -f -c %T mounted | sed 's,ext2/ext3,ext4,')"
         umount mounted
         mounted=''
     else
@@ -81,7 +81,7 @@ let_go() {
     wait "$holding"
 }
 
-# shared DEVICE FILE NODE: whatever names a device, one process works on it at a time
+# shared DEVICE FILE NODE: only one process uses a device at a time, by whichever of its names
 shared() {
     "$NBDJ" format "$1" --blocks 16 --area 2M >/dev/null
     for pair in "$1 $3" "$3 $1" "$1 $2" "$2 $1" "$3 $2" "$2 $3"; do
@@ -97,10 +97,10 @@ shared() {
     is 'a device that was held' 'commands 0' "$("$NBDJ" recover "$3")"
 }
 
-# settled: waits for udev, which reads a device that was open for writing once it is closed, and holds a lock on it meanwhile
+# settled: waits for udev, which locks and reads a device after it was closed by a writer
 settled() { ! command -v udevadm >/dev/null || udevadm settle --timeout=20 >/dev/null 2>&1 || :; }
 
-# refuses NAME PATH CONTENT: a format by size tells what is there and leaves it; with --force it replaces it
+# refuses NAME PATH CONTENT: `format --size` says what is there and leaves it; with --force it replaces it
 refuses() {
     cp "$2" before.img
     settled
@@ -114,7 +114,7 @@ refuses() {
     is "$1, which is replaced" '0|formatted 5259264' "$(timeout 20 "$NBDJ" format "$2" --size 1M --area 2M --force 2>&1 >output; echo "$?|$(cat output)")"
 }
 
-# known DEVICE: bytes by which something is known on a device, after zeroes
+# known DEVICE: formats that are recognised on a device by a few bytes
 known() {
     while read -r offset bytes name; do
         dd if=/dev/zero of="$1" bs=1M count=8 conv=notrunc 2>/dev/null
@@ -136,7 +136,7 @@ known() {
 ROWS
 }
 
-# on_partition DEVICE: what uses a partition uses the whole device, and the other way round
+# on_partition DEVICE: a device is in use if one of its partitions is
 on_partition() {
     if ! addpart "$1" 1 2048 20480 2>/dev/null || ! [ -b "$1p1" ]; then
         skipped 'a partition' "the kernel's devices have none here"
@@ -172,7 +172,7 @@ else
     loop_off "$loop"
 fi
 
-# Files: what isn't empty is kept, unless it is to be replaced.
+# Files that aren't empty are kept, unless --force replaces them.
 differing 5000000 1 >some
 refuses 'a file with data' some '5000000 bytes'
 "$NBDJ" format e.img --size 64K --area 2M >/dev/null
@@ -182,7 +182,7 @@ rm -f e.img
 ends 'an empty file' 0 "$(text 'formatted 4276224')" '' format e.img --size 64K --area 2M
 ends 'a format by blocks replaces' 0 "$(text 'formatted 4276224')" '' format e.img --blocks 16 --area 2M
 
-# full NAME FILE WORD..: a format for which the disk has no room tells so
+# full NAME FILE WORD..: a format on a full disk says so
 full() {
     name=$1 path=$2
     shift 2
@@ -190,7 +190,7 @@ full() {
     is "$name" "1||nbdj: $path: write of 1 bytes at 0: No space left on device (os error 28)|nbdj: device fault (1)" "$?|$(cat output)|$(paste -s -d '|' errors)"
 }
 
-# served IMAGE: what nbdj-server prints until its socket is there, without the numbers that differ; then it is stopped
+# served IMAGE: what nbdj-server prints until it listens, without numbers that vary; then it is stopped
 served() {
     mkfifo told
     "$here/packaging/nbdj-server" "$1" --unix socket >told 2>&1 &
@@ -200,8 +200,8 @@ served() {
     rm told
 }
 
-# A disk of 12 MiB: a format without room leaves no file of its own, and what was there; journal and maps are allocated by a format, so
-# that only a copy into a hole lacks room, which loses nothing.
+# A disk of 12 MiB: a format without space removes its new file, and leaves an old one. Journal and maps are allocated by `format`, so only a copy
+# into a hole can lack space, and it loses nothing.
 on_full_disks() {
     full 'all of a new file' small/new.img --size 64M --area 2M --preallocate
     full 'the journal of a new file' small/new.img --size 1M --area 16M
@@ -216,7 +216,7 @@ on_full_disks() {
     "$NBDJ" format small/d.img --size 64M --area 2M >/dev/null
     is 'nbdj-server warns of too little space' 'nbdj-server: small/d.img may need 64 MiB more, and its file system has N MiB free|listening' "$(served small/d.img | paste -s -d '|')"
     "$NBDJ" format small/e.img --size 1M --area 2M >/dev/null
-    is 'nbdj-server where there is space' listening "$(served small/e.img)"
+    is 'nbdj-server with enough space' listening "$(served small/e.img)"
     rm small/e.img
     dd if=/dev/zero of=small/rest bs=64K 2>/dev/null
     {
@@ -240,7 +240,7 @@ if mount -t tmpfs -o size=12m tmpfs small 2>/dev/null; then
     umount small
     mounted=''
 else
-    skipped 'a full disk' 'this system lets nobody mount'
+    skipped 'a full disk' 'nothing can be mounted here'
 fi
 
 the_end

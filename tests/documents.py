@@ -1,20 +1,19 @@
 #!/usr/bin/env python3
-"""Holds the documents to the sources and to the built program NBDJ. Prints a line for each check that fails; last 'N passed, M failed'.
+"""Compares the documents with the sources and with the built program NBDJ. Prints a line for each check that fails; last 'N passed, M failed'.
 
-- The refusals: the table of docs/FORMATS.md has the number and text of each refusal that the sources number, and the text of each
-  error that a crate names; each row is some crate's. What runs of the other checks ended with, which stands in the file NBDJ_TOLD, is
-  in the table; the rows that no run ended with are printed, since of those only the sources tell.
-- Each console block of README.md and docs/: its commands print what stands there.
-- The shell block of README.md, a first served image, runs to its end, where its client is installed.
-- The man page, docs/nbdj.1: its synopsis, and of each command the texts, arguments, options, names of values, defaults and values, as
-  the command's `--help` has them.
-- The completion for bash, packaging/nbdj.bash: its commands are those of the man page.
-- Each wrong body, of crates/CRATE/must-fail/, of wrong-bodies/CRATE/ and of wrong-bodies/by-test/, changes texts that stand once in the
-  crate's sources; those for a test name one.
-- docs/DESIGN.md has the table of the crates that tools/crate-table makes of crates.txt, and docs/ASSURANCE.md those of the definitions
-  that tools/headline-definitions makes of the sources.
+- The table of refusals in docs/FORMATS.md has the number and text of each refusal in the sources, and the text of each error of a crate;
+  each row is in some crate. The refusals in the file NBDJ_TOLD, which runs of the other checks ended with, are in the table. Rows that no
+  run ended with are printed, because only the sources vouch for them.
+- The commands in console blocks of README.md and docs/ print what stands there.
+- The shell block of README.md, a first served image, runs to its end, if its client is installed.
+- The man page, docs/nbdj.1, has the synopsis, texts, arguments, options, names of values, defaults and values of each command's `--help`.
+- The completion for bash, packaging/nbdj.bash, has the commands of the man page.
+- Each wrong body, in crates/CRATE/must-fail/, wrong-bodies/CRATE/ and wrong-bodies/by-test/, changes texts that stand once in the crate's
+  sources; those for a test name one.
+- docs/DESIGN.md has the table of crates that tools/crate-table makes of crates.txt, and docs/ASSURANCE.md the tables of definitions that
+  tools/headline-definitions makes of the sources.
 - The charts of docs/PERFORMANCE.md are those that tools/chart makes of its tables.
-- The files of crates that documents name are there, and so is what links between documents lead to.
+- Files of crates that documents name exist, and so do the targets of links between documents.
 - Prose wraps at 100 columns.
 """
 import glob
@@ -25,17 +24,8 @@ import subprocess
 import sys
 import tempfile
 
-TOP = os.path.dirname(os.path.dirname(os.path.abspath(__file__)))
-passed, failed = 0, 0
-
-
-def check(name, wanted, got):
-    global passed, failed
-    if wanted == got:
-        passed += 1
-    else:
-        failed += 1
-        print(f"FAILED {name}\n  wanted: {wanted}\n  got:    {got}")
+import checks
+from checks import NBDJ, TOP, check
 
 
 def read(path):
@@ -48,13 +38,13 @@ def documents():
 
 
 def refusals():
-    """The rows of the table of refusals, by text the number."""
+    """The table of refusals: the number of each text."""
     part = read(f"{TOP}/docs/FORMATS.md").partition("\n## Refusals\n")[2].partition("\n## ")[0]
     return {text: int(number) for number, text in re.findall(r"^\| (\d+) \| ([^|]+) \|", part, re.M)}
 
 
 def errors(source):
-    """The errors of a source file, by text the name of the variant: those whose text is derived, and those that `text` gives one."""
+    """The errors of a source file: the name of the variant for each text, derived or given by `text`."""
     found = dict(re.findall(r'#\[error\("([^"{]*)"\)\]\s*(\w+)', source))
     for body in re.findall(r"fn text\(self\) -> &'static str \{(.*?)\n    \}\n", source, re.S):
         found.update({text: name for name, text in re.findall(r'::(\w+)[^"\n]* => "([^"]*)"', body)})
@@ -77,17 +67,17 @@ def check_refusals():
     check("each row is an error of some crate", [], sorted(set(rows) - texts))
     told = os.environ.get("NBDJ_TOLD")
     if not told:
-        print("skipped: the texts that runs ended with, since NBDJ_TOLD names no file of them")
+        print("skipped: the texts that runs ended with, because NBDJ_TOLD names no file of them")
         return
     seen = set(re.findall(r"^nbdj: (.*) \((\d+)\)$", read(told), re.M))
     check("some run was refused", True, len(seen) > 0)
-    check("what runs told is in the table", [], sorted(it for it in seen if rows.get(it[0]) != int(it[1])))
+    check("the refusals of runs are in the table", [], sorted(it for it in seen if rows.get(it[0]) != int(it[1])))
     unseen = [f"{number} {text}" for text, number in rows.items() if (text, str(number)) not in seen]
     print(f"of the refusals no run of the program ended with: {', '.join(unseen) or 'none'}")
 
 
 def placed(folder, program):
-    """Makes a folder where the program and the examples are at hand; the environment of what runs there."""
+    """Puts the program and the examples into a folder; the environment of commands there."""
     os.mkdir(f"{folder}/bin")
     os.symlink(program, f"{folder}/bin/nbdj")
     os.symlink(f"{TOP}/examples", f"{folder}/examples")
@@ -95,7 +85,7 @@ def placed(folder, program):
 
 
 def check_examples(program):
-    """The console blocks of each document, one document after another in a folder of its own."""
+    """Runs the console blocks of each document in a folder of its own."""
     met = 0
     for path in documents():
         blocks = re.findall(r"^```console\n(.*?)^```$", read(path), re.M | re.S)
@@ -112,7 +102,7 @@ def check_first_image(program):
     blocks = re.findall(r"^```sh\n(.*?)^```$", read(f"{TOP}/README.md"), re.M | re.S)
     check("README.md has one shell block", 1, len(blocks))
     if not shutil.which("nbdcopy"):
-        print("skipped: the first served image of README.md, since nbdcopy is not installed")
+        print("skipped: the first served image of README.md, because nbdcopy is not installed")
         return
     with tempfile.TemporaryDirectory() as folder:
         place = placed(folder, program)
@@ -121,11 +111,11 @@ def check_first_image(program):
         check("README.md: a first served image", (0, said), (ran.returncode, ran.stdout + ran.stderr))
 
 
-def help_of(program, command):
-    """What `--help` of a command tells: the lines of its usage, what it does, the text behind the options without the example, and by
-    argument and option (but for -h and -V) the text, with default and values as the man page writes them."""
-    done = subprocess.run([program, command, "--help"], capture_output=True, text=True, timeout=60)
-    about, _, rest = done.stdout.partition("\n\nUsage: ")
+def help_of(command):
+    """What `--help` of a command says: the lines of its usage, what it does, the text after the options without the example, and for each
+    argument and option (except -h and -V) its text, default and values."""
+    _, output, _ = checks.run(command, "--help")
+    about, _, rest = output.partition("\n\nUsage: ")
     usage = [line.strip() for line in rest.partition("\n\n")[0].splitlines()]
     rows = {}
     for tag, text in re.findall(r"^ +(?:-v, )?(--[a-z-]+(?: <\w+>)?|<\w+>)(?: {2,}|\n +)(.*)$", rest, re.M):
@@ -137,13 +127,15 @@ def help_of(program, command):
 
 
 def man_of(page, command):
-    """The same of the man page."""
+    """The same in the man page."""
     usage = re.findall(rf"^nbdj {command}\b.*$", page.partition("\n.SH SYNOPSIS\n")[2].partition("\n.SH ")[0], re.M)
     part = re.split(r"\n\.S[SH] ", page.partition(f"\n.SS nbdj {command}\n")[2])[0]
     texts, *tagged = part.split("\n.TP\n")
     about, _, note = texts.partition("\n.PP\n")
+    # The options of every command stand in a section of their own. Like the help's, -h and -V are left out.
+    common = page.partition("\n.SH OPTIONS\n")[2].partition("\n.SH ")[0].split("\n.TP\n")[1:]
     rows = {}
-    for item in tagged:
+    for item in tagged + [it for it in common if not re.match(r"\.BR -[hV] ", it)]:
         head, text, *more = item.splitlines()
         tag = re.sub(r'^\.BI (--[a-z-]+) " (\w+)"$', r"\1 <\2>", re.sub(r"^\.I (\w+)$", r"<\1>", head))
         tag = re.sub(r'^\.BR? (?:-v ", " )?(--[a-z-]+)$', r"\1", tag)
@@ -152,27 +144,27 @@ def man_of(page, command):
     return {"usage": usage, "about": about.strip().removesuffix("."), "note": " ".join(note.split()), "rows": rows}
 
 
-def check_man_page(program):
-    """The man page against the help of each command that the program's own help lists."""
+def check_man_page():
+    """Compares the man page with the help of each command that the program's help lists."""
     page = read(f"{TOP}/docs/nbdj.1").replace("\\-", "-").replace("\\(ga", "`")
-    done = subprocess.run([program, "--help"], capture_output=True, text=True, timeout=60)
-    listed = re.findall(r"^  (\w+) ", done.stdout.partition("\nCommands:\n")[2].partition("\n\n")[0], re.M)
+    _, output, _ = checks.run("--help")
+    listed = re.findall(r"^  (\w+) ", output.partition("\nCommands:\n")[2].partition("\n\n")[0], re.M)
     commands = [it for it in listed if it != "help"]
     check("the commands of the man page", commands, re.findall(r"^\.SS nbdj (\w+)$", page, re.M))
     check("there are commands", True, len(commands) > 0)
     for command in commands:
-        wanted, got = help_of(program, command), man_of(page, command)
+        wanted, got = help_of(command), man_of(page, command)
         check(f"the man page of {command}: options and arguments", sorted(wanted["rows"]), sorted(got["rows"]))
         for tag, row in wanted["rows"].items():
             check(f"the man page of {command}: {tag}", row, got["rows"].get(tag))
         for part in ("usage", "about", "note"):
             check(f"the man page of {command}: {part}", wanted[part], got[part])
-    version = subprocess.run([program, "--version"], capture_output=True, text=True, timeout=60).stdout.strip()
+    version = checks.run("--version")[1].strip()
     check("the version of the man page", [version], re.findall(r'^\.TH NBDJ 1 "\d{4}-\d\d-\d\d" "(.*?)"', page, re.M))
 
 
 def check_completion():
-    """The first words that the completion offers, but for `help` and the options, against the commands of the man page."""
+    """Compares the first words that the completion offers, except `help` and options, with the commands of the man page."""
     commands = re.findall(r"^\.SS nbdj (\w+)$", read(f"{TOP}/docs/nbdj.1"), re.M)
     offered = re.search(r'"\$COMP_CWORD" -eq 1 .*?compgen -W \'([^\']*)\'', read(f"{TOP}/packaging/nbdj.bash"), re.S)
     words = offered[1].split() if offered else []
@@ -227,7 +219,7 @@ def check_wrong_bodies():
 
 
 def is_test(words):
-    """Whether this names a script of tests/, or a crate of tests and a test of it."""
+    """Whether this names a script of tests/, or a crate of tests and one of its tests."""
     name, _, test = words.partition(" ")
     if name.startswith("tests/"):
         return os.access(f"{TOP}/{name}", os.X_OK)
@@ -241,7 +233,7 @@ def check_files():
 
 
 def anchors(page):
-    """The anchors of a page's headings, as the usual viewers make them."""
+    """The anchors of a page's headings, as viewers of Markdown make them."""
     headings = re.findall(r"^#+ (.*)$", re.sub(r"^```.*?^```$", "", page, flags=re.M | re.S), re.M)
     return {re.sub(r"[^\w\- ]", "", it.lower()).replace(" ", "-") for it in headings}
 
@@ -258,7 +250,7 @@ def check_links():
 
 
 def check_columns():
-    """Lines of prose and of lists; a table's row can't be broken, and a block of code has its own width."""
+    """Checks lines of prose and lists; rows of tables can't be broken, and blocks of code have their own width."""
     for path in documents():
         prose = re.sub(r"^```.*?^```$", "", read(path), flags=re.M | re.S)
         long = [line for line in prose.splitlines() if len(line) > 100 and not re.match(r"\||    ", line)]
@@ -275,15 +267,13 @@ def main():
     check_links()
     check_columns()
     check_wrong_bodies()
-    program = os.environ.get("NBDJ")
-    if program and os.access(program, os.X_OK):
-        check_examples(os.path.abspath(program))
-        check_first_image(os.path.abspath(program))
-        check_man_page(os.path.abspath(program))
+    if os.access(NBDJ, os.X_OK):
+        check_examples(os.path.abspath(NBDJ))
+        check_first_image(os.path.abspath(NBDJ))
+        check_man_page()
     else:
-        check("the program NBDJ", "a built program", program)
-    print(f"{passed} passed, {failed} failed")
-    return 1 if failed else 0
+        check("the program NBDJ", "a built program", NBDJ)
+    return checks.finish()
 
 
 if __name__ == "__main__":

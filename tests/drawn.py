@@ -1,35 +1,27 @@
 #!/usr/bin/env python3
-"""Scripts of `rehearse` and sessions of `pipe` of the built program NBDJ, drawn at random, beside an image of plain bytes.
+"""Random scripts of `rehearse` and random sessions of `pipe` of the built program NBDJ, compared with an image of plain bytes.
 
-A script has all commands of sixteen connections, checkpoints and crashes, over a small image and over one with more blocks than frames, and
-prints what plain bytes hold. Sessions come one after another over one image, whose journal of 2 MiB fills on the way, and are answered as
-plain bytes answer them, the last of each with the whole image. Prints a line for each check that fails, and last 'N passed, M failed'.
+A script has all commands, of sixteen connections, checkpoints and crashes, over a small image and over one with more blocks than frames.
+Sessions come one after another over one image, whose journal of 2 MiB fills meanwhile; each ends with a READ of the whole image. Prints a line for each check that fails, and last 'N passed, M failed'.
 """
 import os
 import random
-import subprocess
 import sys
 import tempfile
 
-from hostile import BLOCK, DISC, FLUSH, MIB, NBDJ, READ, TRIM, WRITE, ZEROES, check, request, struct
+import checks
+from checks import BLOCK, DISC, FLUSH, FUA, MIB, NO_HOLE, READ, TRIM, WRITE, ZEROES, check, format_image, reply, request, run
 
-import hostile
-
-FUA, NO_HOLE = 1, 2
 DATA, ZERO, HOLE = 0, 2, 3
-# Of a script: the blocks of its image, the bytes of an area, the most blocks of a command, and its turns. It has 512 frames.
+# Two kinds of scripts, with 512 frames: blocks of the image, bytes of an area, most blocks of a command, and steps.
 SCRIPTS = [(24, 2 * MIB, 5, 1500), (700, 16 * MIB, 40, 1500)]
 MOST_WRITTEN = 400
 SESSION_BLOCKS, SESSIONS, SESSION_TURNS = 48, 6, 150
 SEEDS = 4711, 20260, 998244353
 
 
-def simple(cookie):
-    return struct.pack(">IIQ", 0x67446698, 0, cookie)
-
-
 def place_in_block(draws):
-    """A place in a block, or behind it: often where the block begins or ends, or beside that."""
+    """A place in a block or at its end, often next to one of its ends."""
     return draws.choice([0, 1, BLOCK - 1, BLOCK, *[draws.randrange(BLOCK)] * 2])
 
 
@@ -58,7 +50,7 @@ class Image:
         return range(-(-start // BLOCK), end // BLOCK)
 
     def runs(self, first, same):
-        """The longest runs of blocks from the first on that are the same: their first block and length."""
+        """The longest runs of equal blocks from `first` on: first block and length of each."""
         found = [[first, 1]]
         for block in range(first + 1, len(self.states)):
             if same(block - 1, block):
@@ -69,7 +61,7 @@ class Image:
 
 
 class Script:
-    """A script, what it has to print, and what the device then holds."""
+    """A script, what it has to print, and what the device holds after it."""
 
     def __init__(self, draws, blocks, area, most, mode):
         self.draws, self.blocks, self.most, self.mode = draws, blocks, most, mode
@@ -79,7 +71,7 @@ class Script:
         self.stored = self.image.copy()
         # How many commands there are, are stored, and are in map and data.
         self.count = self.durable = self.base = 0
-        # The blocks that a command which isn't in map and data wrote last.
+        # The blocks last written by a command that isn't in map and data yet.
         self.written = set()
         self.line(f"format {blocks} {area} 512 {mode}".rstrip(), "done")
 
@@ -88,21 +80,21 @@ class Script:
         self.printed.append(printed)
 
     def ask(self, connection, what):
-        """A request of a connection and its serving; the answer is asked for, and what that prints comes next."""
+        """Sends and serves a request, and asks for its answer, whose output comes next."""
         self.line(f"send {connection} {what}", "done")
         self.line(f"serve {connection}", "done")
         self.lines.append(f"answer {connection}")
 
     def drawn_blocks(self):
-        """A few blocks: the first one and the one behind them."""
+        """A few blocks, as the first one and the end."""
         first = self.draws.randrange(self.blocks - 1)
         return first, first + 1 + self.draws.randrange(min(self.blocks - first, self.most))
 
     def drawn_bytes(self):
-        """Bytes of a few blocks, which often begin or end at the border of a block, or beside it."""
-        first, behind = self.drawn_blocks()
+        """Bytes of a few blocks, which often begin or end at a border of blocks, or next to one."""
+        first, end = self.drawn_blocks()
         start = BLOCK * first + min(place_in_block(self.draws), BLOCK - 1)
-        return start, max(BLOCK * (behind - 1) + place_in_block(self.draws), start + 1)
+        return start, max(BLOCK * (end - 1) + place_in_block(self.draws), start + 1)
 
     def write(self, start, end, byte):
         self.image.fill(start, end, byte)
@@ -112,7 +104,7 @@ class Script:
         self.count += 1
 
     def zero(self, start, end, state):
-        """What a range touches gets this state, but for data that it covers in part."""
+        """The blocks that a range touches get this state, except data blocks that it covers in part."""
         self.image.fill(start, end, 0)
         for block in self.image.touched(start, end):
             if self.image.states[block] == DATA and block not in self.image.covered(start, end):
@@ -140,7 +132,7 @@ class Script:
         self.printed.append(f"answer {connection} ok")
 
     def answered_stored(self, connection):
-        """The answer that waits until all is stored, but in ordered."""
+        """The answer, which waits until everything is stored, except in ordered."""
         if self.durable < self.count and self.mode != "ordered":
             self.printed.append("held")
             self.store()
@@ -154,14 +146,14 @@ class Script:
         (self.answered_stored if fua else self.answered)(connection)
 
     def put(self, connection):
-        first, behind = self.drawn_blocks()
+        first, end = self.drawn_blocks()
         byte = self.draws.randrange(256)
-        self.command(connection, f"put {first} {behind - first} {byte:02x}", self.write, first * BLOCK, behind * BLOCK, byte)
+        self.command(connection, f"put {first} {end - first} {byte:02x}", self.write, first * BLOCK, end * BLOCK, byte)
 
     def clear(self, connection):
-        first, behind = self.drawn_blocks()
+        first, end = self.drawn_blocks()
         kind, state = self.draws.choice([("zero", ZERO), ("hole", HOLE)])
-        self.command(connection, f"clear {kind} {first} {behind - first}", self.zero, first * BLOCK, behind * BLOCK, state)
+        self.command(connection, f"clear {kind} {first} {end - first}", self.zero, first * BLOCK, end * BLOCK, state)
 
     def put_bytes(self, connection):
         start, end = self.drawn_bytes()
@@ -182,9 +174,9 @@ class Script:
         self.answered_stored(connection)
 
     def read(self, connection):
-        first, behind = self.drawn_blocks()
-        self.ask(connection, f"read {first} {behind - first}")
-        self.printed.append(f"answer {connection} bytes" + "".join(f" {self.image.first_byte(it):02x}" for it in range(first, behind)))
+        first, end = self.drawn_blocks()
+        self.ask(connection, f"read {first} {end - first}")
+        self.printed.append(f"answer {connection} bytes" + "".join(f" {self.image.first_byte(it):02x}" for it in range(first, end)))
 
     def status(self, connection):
         first, _ = self.drawn_blocks()
@@ -194,7 +186,7 @@ class Script:
         self.printed.append(f"answer {connection} runs" + "".join(f" {length}:{states[block]}" for block, length in runs))
 
     def checkpoint(self, connection):
-        """A whole checkpoint, with a READ in the midst of it."""
+        """A whole checkpoint, with a READ between its steps."""
         self.store()
         if self.durable == self.base:
             self.line("rotate", "held")
@@ -210,7 +202,7 @@ class Script:
         self.written.clear()
 
     def crash(self):
-        """What is stored is found, and carried into map and data."""
+        """A crash: what was stored is found, and copied into map and data."""
         self.lines.append("crash " + self.draws.choice(["old", "new", f"{self.draws.randrange(256):02x}"]))
         self.image = self.stored.copy()
         self.count = self.base = self.durable
@@ -222,7 +214,7 @@ class Script:
 
     def turn(self):
         connection = 1 + self.draws.randrange(16)
-        # So many commands always fit the area, and so many blocks the frames.
+        # Up to these limits commands always fit into the area, and blocks into the frames.
         if self.count - self.base > 60 or len(self.written) > MOST_WRITTEN:
             self.checkpoint(connection)
         kind = self.draws.randrange(50)
@@ -238,7 +230,7 @@ class Script:
 
 
 class Session:
-    """Requests of one connection, the replies that are due to them, and the bytes of the image."""
+    """The requests of one connection, their replies, and the bytes of the image."""
 
     def __init__(self, draws):
         self.draws = draws
@@ -246,7 +238,7 @@ class Session:
         self.cookie = 0
 
     def range(self):
-        """Over at most eight blocks: whole ones, or from a place in the first to one in the last."""
+        """A range over at most eight blocks: whole ones, or from within the first to within the last."""
         first = self.draws.randrange(SESSION_BLOCKS)
         length = BLOCK * (1 + self.draws.randrange(min(8, SESSION_BLOCKS - first)))
         if self.draws.randrange(2):
@@ -255,12 +247,12 @@ class Session:
         return first * BLOCK + front, length - front - min(place_in_block(self.draws), length - 1 - front)
 
     def bytes(self, count):
-        """So many bytes that differ from place to place."""
+        """Bytes that differ from place to place."""
         seed, step = self.draws.randrange(256), 1 + self.draws.randrange(97)
         return bytes((place * step + seed) % 256 for place in range(count))
 
     def turn(self):
-        """A request, and the data behind its reply."""
+        """A request, and its reply with data."""
         self.cookie += 1
         offset, length = self.range()
         fua = FUA * (self.draws.randrange(6) == 0)
@@ -276,42 +268,38 @@ class Session:
         else:
             start, end = offset, offset + length
             if kind == TRIM:
-                # the parts of blocks stay as they are
+                # (parts of blocks stay as they are)
                 start, end = -(-start // BLOCK) * BLOCK, end // BLOCK * BLOCK
             self.image[start:end] = bytes(max(end - start, 0))
-        return request(kind, self.cookie, offset, length, flags) + data, simple(self.cookie) + shown
+        return request(kind, self.cookie, offset, length, flags) + data, reply(self.cookie) + shown
 
     def talk(self):
         turns = [self.turn() for _ in range(SESSION_TURNS)]
-        turns.append((request(READ, 0, 0, len(self.image)) + request(DISC, 0, 0, 0), simple(0) + self.image))
+        turns.append((request(READ, 0, 0, len(self.image)) + request(DISC, 0, 0, 0), reply(0) + self.image))
         return b"".join(it[0] for it in turns), b"".join(it[1] for it in turns)
-
-
-def run(words, given):
-    return subprocess.run([NBDJ, *words], input=given, capture_output=True, timeout=120)
 
 
 def check_script(seed, mode, blocks, area, most, turns):
     script = Script(random.Random(seed), blocks, area, most, mode)
     for _ in range(turns):
         script.turn()
-    ran = run(["rehearse"], "".join(f"{it}\n" for it in script.lines).encode())
-    printed = ran.stdout.decode().splitlines()
+    status, output, errors = run("rehearse", given="".join(f"{it}\n" for it in script.lines), seconds=120)
+    printed = output.splitlines()
     name = f"the script of seed {seed} over {blocks} blocks {mode}".rstrip()
-    check(f"how {name} ends", (0, b"", len(script.printed)), (ran.returncode, ran.stderr, len(printed)))
+    check(f"how {name} ends", (0, "", len(script.printed)), (status, errors, len(printed)))
     differ = [place for place, (wanted, got) in enumerate(zip(script.printed, printed)) if wanted != got][:1]
     check(f"what {name} prints", [], [(place, script.printed[place], printed[place]) for place in differ])
 
 
 def check_sessions(folder, seed, *words):
     session, image = Session(random.Random(seed)), os.path.join(folder, f"{seed}.img")
-    run(["format", image, "--blocks", str(SESSION_BLOCKS), "--area", str(2 * MIB)], b"").check_returncode()
+    format_image(image, "--blocks", str(SESSION_BLOCKS), "--area", str(2 * MIB))
     for number in range(SESSIONS):
         stream, replies = session.talk()
-        ran = run(["pipe", image, *words], stream)
+        status, output, errors = run("pipe", image, *words, given=stream, seconds=120)
         name = " ".join([f"session {number} of seed {seed}", *words])
-        check(f"how {name} ends", (0, b"", len(replies)), (ran.returncode, ran.stderr, len(ran.stdout)))
-        check(f"what {name} is answered", None, next((place for place, (one, other) in enumerate(zip(replies, ran.stdout)) if one != other), None))
+        check(f"how {name} ends", (0, b"", len(replies)), (status, errors, len(output)))
+        check(f"what {name} is answered", None, next((place for place, (one, other) in enumerate(zip(replies, output)) if one != other), None))
 
 
 def main():
@@ -322,8 +310,7 @@ def main():
             check_script(seed, "ordered", *SCRIPTS[0])
             check_sessions(folder, seed)
         check_sessions(folder, SEEDS[0] + 1, "--cache", "ordered")
-    print(f"{hostile.passed} passed, {hostile.failed} failed")
-    return hostile.failed > 0
+    return checks.finish()
 
 
 if __name__ == "__main__":

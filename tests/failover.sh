@@ -5,16 +5,15 @@
 #
 # usage: tests/failover.sh [TRIAL ..]          (TRIAL: the name of one of the functions below whose comment says "Trial"; by default all)
 #
-# With TIMES=shipped it waits as long as packaging/ says, and otherwise more briefly. It takes about 15 minutes, so ./test doesn't run it. It
-# needs root, FUSE, loop devices, network namespaces, and of Debian glusterfs-server, glusterfs-client, xfsprogs, iputils-arping and
-# python3-libnbd; what is missing is told, and nothing is tried. The last line is 'N passed, M failed'. Where a check fails, the log of its
-# trial is printed.
+# With TIMES=shipped it has the timeouts of packaging/, otherwise shorter ones. It takes about 15 minutes, so ./test doesn't run it. It needs root,
+# FUSE, loop devices, network namespaces, and of Debian glusterfs-server, glusterfs-client, xfsprogs, iputils-arping and python3-libnbd; it says
+# what is missing, and then checks nothing. The last line is 'N passed, M failed'. If a check fails, the log of its trial is printed.
 set -u
 here=$(CDPATH='' cd "$(dirname "$0")/.." && pwd)
 . "$here/tests/failover/hosts.sh"
 export NBDJ=${NBDJ:?}
 address=10.77.0.100
-# A host that doesn't answer is given up after six seconds, not twelve, and all that has to be shorter than that is.
+# A host that doesn't answer is given up after six seconds, not twelve; shorter times are shortened too.
 short='network.ping-timeout 2
 server.tcp-user-timeout 6
 server.keepalive-time 3
@@ -35,7 +34,7 @@ standby() {
     host_in "$1" "$here/packaging/nbdj-standby" "$run/$1/mount/vm.img" "$address/24" eth0 --listen 0.0.0.0 --workers 4 $checks 2>&1 |
         while read -r line; do say "$1: $line"; done >>"$run/standby.$1" &
 }
-# servers_killed HOST: all of nbdj-standby there ends at once; the address goes, as its unit sees to
+# servers_killed HOST: kills all of nbdj-standby there, and removes the address, as its unit does
 servers_killed() {
     for program in nbdj-standby nbdj-server "$(basename "$NBDJ")"; do kill_in "$1" "$program"; done
     host_in "$1" ip address del "$address/24" dev eth0 2>/dev/null
@@ -49,14 +48,14 @@ await() {
     say "NOT SEEN: $2 in $1"
     return 1
 }
-# client HOST [OPTION ..]: runs there until it is done; its lines go to $run/client.HOST
+# client HOST [OPTION ..]: runs a client there to its end; its lines go to $run/client.HOST
 client() {
     local host=$1
     shift
     host_in "$host" /usr/bin/python3 "$here/tests/failover/client.py" "nbd://$address" --name "client $host" "$@" >"$run/client.$host" 2>&1
     say "client $host: status $?"
 }
-# held_up HOST: a client there, of this host's own server, which does what `held` asks
+# held_up HOST: starts a client of the server there, which does what `held` asks
 held_up() {
     rm -f "$run/held.in"
     mkfifo "$run/held.in"
@@ -74,14 +73,14 @@ held() {
     done
     tail -n 1 "$run/held.out"
 }
-# by_d COMMAND..: of a client of the service on d, as y: writes block 4000 and flushes; or reads it
+# by_d [write]: a client on d reads block 4000 by the service's address, or first writes y to it and flushes
 by_d() { host_in d /usr/bin/python3 -c "
 import sys, nbd
 h = nbd.NBD(); h.connect_uri('nbd://$address')
 if sys.argv[1:] == ['write']: h.pwrite(b'y' * 4096, 4000 * 4096); h.flush()
 print('by b: block 4000 holds', bytes(h.pread(1, 4000 * 4096)))" "$@"; }
 
-# taken_back: b's servers end, so that a, which was shut out, has to serve again
+# taken_back: kills b's servers, so that a, which was shut out, has to serve again
 taken_back() {
     await "$run/standby.a" 'another process has locked it'
     took=$(grep -c takes "$run/standby.a")
@@ -96,7 +95,7 @@ volume_with_image() {
     standby a
     await "$run/standby.a" 'takes'
 }
-# settled HOST: ends all servers, compares the replicas once they are healed, and checks the image on this host
+# settled HOST: kills all servers, compares the replicas once they are healed, and checks the image on this host
 settled() {
     local host
     for host in a b; do [ -f "$run/$host/pid" ] && servers_killed "$host"; done
@@ -131,7 +130,7 @@ off() {
     wait $cl
     settled b
 }
-# Trial: it is cut off under load of a client beside b and of one on itself, and comes back.
+# Trial: it is cut off under load of a client on d and of one on itself, and comes back.
 cut() {
     volume_with_image
     standby b
@@ -146,7 +145,7 @@ cut() {
     wait $cl $own
     settled b
 }
-# Trial: it is stopped as a whole under load, and goes on after another one has taken over.
+# Trial: all its processes are stopped under load, and go on after another host has taken over.
 pause() {
     volume_with_image
     standby b
@@ -168,7 +167,7 @@ pause() {
     wait $cl
     settled b
 }
-# Trial: it is cut off while only reads come to it, which it answers from memory. It has to have stopped before another one serves.
+# Trial: it is cut off while it gets only READs, which it answers from memory. It has to stop before another host serves.
 idle() {
     volume_with_image
     standby b
@@ -198,7 +197,7 @@ mounted_again() {
     done
     sleep 4
 }
-# what an idle host does that is cut off without lock checks, and goes on once it is back and another one serves
+# cut_off_while_idle: an idle host without lock checks is cut off, and comes back after another host serves
 cut_off_while_idle() {
     checks=
     volume_with_image
@@ -217,7 +216,7 @@ cut_off_while_idle() {
     exec 9>&-
     client a 8 --base 2000 --seed 2 --patience 20 & own=$!
     sleep 7
-    say "both servers are killed, and one starts anew"
+    say "both servers are killed, and one starts again"
     for host in a b; do kill_in "$host" "$(basename "$NBDJ")"; done
     wait $cl $own
     by_d read
@@ -225,14 +224,14 @@ cut_off_while_idle() {
 }
 # Trial: the volume alone shuts out a host that lost the lock.
 fence() { cut_off_while_idle; }
-# Trial: the control. Without the volume's fence two servers write one image, and this test has to see that.
+# Trial: the control. Without the volume's fence two servers write one image, and the checks have to notice.
 control() {
     volume_options="$short
 client.strict-locks off"
     cut_off_while_idle
 }
-# Trial: the control, where nobody kills the servers. The one without the lock has to notice the other one before it changes the header of the
-# image, and to end; what was confirmed to its client by then is lost.
+# Trial: the control, without kills. The server without the lock has to notice the other one before it changes the header of the image, and to
+# end; what it had confirmed by then is lost.
 noticed() {
     volume_options="$short
 client.strict-locks off"
@@ -243,7 +242,7 @@ client.strict-locks off"
     held write x; held flush
     host_cut a; start=$(now); say "a is cut off"
     await "$run/standby.b" takes; say "b serves after $(since "$start") s"
-    # (it connects to b before a is back, which has the same address)
+    # (it connects to b before a is back, because a has the same address)
     client d 30 & cl=$!
     by_d write
     sleep 5
@@ -286,8 +285,8 @@ opening() {
     wait $cl
     settled b
 }
-# Trial: a replica is lost under load, three times. The server goes on with the others, and no other host takes over. A replica that was away
-# counts again once the image is opened anew, so a takeover is asked for in between.
+# Trial: a replica is lost under load, three times. The server goes on with the others, and no other host takes over. A replica that was away counts
+# again only after the image is opened again, so there is a takeover in between.
 replica() {
     volume_with_image
     standby b
@@ -312,7 +311,7 @@ replica() {
     wait $cl
     settled b
 }
-# Trial: 20 takeovers in a row under load, each by a kill of the one that serves.
+# Trial: 20 takeovers in a row under load, each after a kill of the servers on the host that serves.
 takeovers() {
     volume_with_image
     standby b
@@ -332,13 +331,13 @@ takeovers() {
     settled b
 }
 
-# brick_up HOST: its replica on an XFS of its own
+# brick_up HOST: mounts its replica, on its own XFS
 brick_up() {
     [ -f "$run/$1.xfs" ] || { truncate -s 600M "$run/$1.xfs"; mkfs.xfs -q "$run/$1.xfs"; }
     losetup -f --show "$run/$1.xfs" >"$run/$1/loop"
     host_in "$1" mount "$(cat "$run/$1/loop")" "$run/$1/brick"
 }
-# all_lose_power: what their file systems haven't written is lost
+# all_lose_power: all hosts lose power, and what their file systems haven't written
 all_lose_power() {
     for host in a b c; do host_cut $host; done
     for host in a b c; do host_in $host xfs_io -x -c shutdown "$run/$host/brick"; done
@@ -351,8 +350,8 @@ all_come_back() {
     bricks_up
     for host in a b c; do volume_mount $host; done
 }
-# Trial: all three hosts lose power at once, twice, under load. First it is tried that such a cut takes an unsynced write and keeps a synced
-# one; without that the trial would say nothing.
+# Trial: all three hosts lose power at once, twice, under load. First a probe shows that such a cut loses an unsynced write and keeps a synced one;
+# otherwise the trial would show nothing.
 all_off() {
     switch_up
     for host in a b c d; do host_up $host "$(host_ip $host)"; done
@@ -392,7 +391,7 @@ trial() {
     name=$1 was_failed=$failed
     echo "$1: $(($(date +%s) - begin)) s$(sed -n 's/.* \(b serves after .*\)/, \1/p; s/.*\(a stops to answer.*\)/, \1/p' "$log" | head -n 2 | tr -d '\n')"
 }
-# has COUNT PATTERN: this many lines of the log have it; hasnt PATTERN
+# has COUNT PATTERN: checks that at least this many lines of the log match; hasnt PATTERN: that none does
 has() {
     if [ "$(grep -cE "$2" "$log")" -ge "$1" ]; then passed=$((passed + 1)); else failed=$((failed + 1)); echo "FAILED $name: not $1 times: $2"; fi
 }
@@ -419,7 +418,7 @@ skip() {
     echo "skipped: $1"
     exit 0
 }
-# (bash reads a script as it goes, so that a change of the file while this runs would be carried out)
+# (bash reads a script while it runs it, so this function keeps it from seeing later changes of the file)
 main() {
     [ "$(id -u)" = 0 ] || skip 'not root'
     for program in glusterd gluster mkfs.xfs xfs_io nsenter unshare losetup arping; do

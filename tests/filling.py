@@ -1,10 +1,10 @@
 #!/usr/bin/env python3
-"""100,000 writes through `pipe` over a journal whose areas have 2 MiB, of which one fills every few hundred of them, by the built program
-NBDJ: 70,000 over one of two areas, and 30,000 over one of four. Half are of a block, the others of any bytes.
+"""100,000 writes through `pipe` of the built program NBDJ, over a journal whose areas have 2 MiB and fill every few hundred writes: 70,000 over
+two areas, and 30,000 over four. Half of the writes are of a block, the others of any bytes.
 
 Each life of the server is killed (SIGKILL) once it has answered a seeded number of requests, or ends with its input. Then the image is
-recovered, and is the image after some first writes of those that were sent, all that a FLUSH confirmed among them; the next life goes
-on from there. Prints a line for each check that fails, and last 'N passed, M failed'.
+recovered: it has to be the image after a prefix of the writes that has every confirmed one. The next life goes on from there. Prints a line
+for each check that fails, and last 'N passed, M failed'.
 """
 import contextlib
 import os
@@ -15,28 +15,14 @@ import sys
 import tempfile
 import threading
 
-BLOCK, BLOCKS, SEED = 4096, 2048, 17
-WRITE, DISCONNECT, FLUSH = 1, 2, 3
-NBDJ = os.environ["NBDJ"]
-passed, failed = 0, 0
+import checks
+from checks import BLOCK, DISC, FLUSH, NBDJ, WRITE, check, reply, request, run
 
-
-def check(name, wanted, got):
-    global passed, failed
-    if wanted == got:
-        passed += 1
-    else:
-        failed += 1
-        print(f"FAILED {name}\n  wanted: {wanted}\n  got:    {got}")
-
-
-def run(*words):
-    done = subprocess.run([NBDJ, *words], stdin=subprocess.DEVNULL, capture_output=True, text=True, timeout=60)
-    return f"{done.returncode}|{done.stdout}|{done.stderr}"
+BLOCKS, SEED = 2048, 17
 
 
 def bytes_of(number, offset, length):
-    """The bytes that the write with this number puts there: they differ from write to write and from place to place."""
+    """The bytes of the write with this number, which differ from write to write and from place to place."""
     cells = range(offset // 8, (offset + length + 7) // 8)
     return b"".join(struct.pack(">II", number, place) for place in cells)[offset % 8:][:length]
 
@@ -49,41 +35,40 @@ def any_range(random_source):
 
 
 def requests_of(writes, random_source):
-    """The requests of a life, each with the number of its last write: the writes, a FLUSH behind every hundred or so, and a DISC."""
+    """The requests of a life, each with the number of the last write so far: the writes, a FLUSH after about every hundred, and a DISC."""
     requests = []
     for number, offset, length in writes:
         requests.append((WRITE, number, offset, bytes_of(number, offset, length)))
         if random_source.randrange(100) == 0:
             requests.append((FLUSH, number, 0, b""))
-    requests.append((DISCONNECT, writes[-1][0], 0, b""))
+    requests.append((DISC, writes[-1][0], 0, b""))
     return requests
 
 
 def text_of(requests):
     for cookie, (kind, _, offset, data) in enumerate(requests):
-        yield struct.pack(">IHHQQI", 0x25609513, 0, kind, cookie, offset, len(data)) + data
+        yield request(kind, cookie, offset, len(data)) + data
 
 
 def feed(stream, requests):
-    """Writes the requests; a server that was killed reads no more of them."""
+    """Writes the requests, until the server is killed."""
     with contextlib.suppress(BrokenPipeError), stream:
         for text in text_of(requests):
             stream.write(text)
 
 
 def live(image, requests, answers_wanted):
-    """Serves the requests, and kills the server once it has given so many answers; the requests that were answered Ok, and the status."""
+    """Serves the requests, and kills the server after this many answers; how many were answered Ok, and the status."""
     with subprocess.Popen([NBDJ, "pipe", image], stdin=subprocess.PIPE, stdout=subprocess.PIPE, stderr=subprocess.DEVNULL) as server:
         feeder = threading.Thread(target=feed, args=(server.stdin, requests), daemon=True)
         feeder.start()
         answered = 0
         while answered < answers_wanted:
-            reply = server.stdout.read(16)
-            if len(reply) < 16:
+            answer = server.stdout.read(16)
+            if len(answer) < 16:
                 break
-            magic, error, cookie = struct.unpack(">IIQ", reply)
-            if (magic, error, cookie) != (0x67446698, 0, answered):
-                check(f"reply {answered}", (0x67446698, 0, answered), (magic, error, cookie))
+            if answer != reply(answered):
+                check(f"reply {answered}", reply(answered).hex(), answer.hex())
             answered += 1
         if answered == answers_wanted:
             server.kill()
@@ -93,7 +78,7 @@ def live(image, requests, answers_wanted):
 
 
 def fill(layout, writes_wanted, lives):
-    """The writes over a device of this layout, in so many lives."""
+    """Sends the writes over an image of this layout, in several lives of the server."""
     random_source = random.Random(SEED * layout)
     area = 2097152 * layout
     begin = 8192 + 2 * area + 2 * BLOCK
@@ -101,12 +86,12 @@ def fill(layout, writes_wanted, lives):
     last, killed = 0, 0
     with tempfile.TemporaryDirectory() as folder:
         path = os.path.join(folder, "d.img")
-        check("format", f"0|formatted {begin + BLOCKS * BLOCK}\n|", run("format", path, "--blocks", str(BLOCKS), "--area", str(area), "--layout", str(layout)))
+        check("format", (0, f"formatted {begin + BLOCKS * BLOCK}\n", ""), run("format", path, "--blocks", str(BLOCKS), "--area", str(area), "--layout", str(layout)))
         for life in range(lives):
             count = (writes_wanted - last) // (lives - life) + 1
             writes = [(last + 1 + index, *any_range(random_source)) for index in range(count)]
             requests = requests_of(writes, random_source)
-            # (the last life, and each fifth, comes to its end)
+            # (each fifth life, and the last one, ends with its input)
             whole = life % 5 == 4 or life == lives - 1
             wanted = len(requests) if whole else random_source.randrange(count // 2, len(requests) - 1)
             answered, status = live(path, requests, wanted)
@@ -117,8 +102,8 @@ def fill(layout, writes_wanted, lives):
                 killed += 1
             confirmed = max([number for kind, number, _, _ in requests[:answered] if kind == FLUSH], default=last)
             confirmed = writes[-1][0] if whole else confirmed
-            recovered = run("recover", path)
-            found = int(recovered.split()[1]) if recovered.startswith("0|commands ") else -1
+            status, recovered, _ = run("recover", path)
+            found = int(recovered.split()[1]) if status == 0 else -1
             check(f"layout {layout}, life {life}: {confirmed} to {writes[-1][0]} commands", True, confirmed <= found <= writes[-1][0])
             for number, offset, length in writes:
                 if number <= found:
@@ -134,7 +119,7 @@ def fill(layout, writes_wanted, lives):
         counts = len(written), BLOCKS - len(written)
         numbers = {"blocks": BLOCKS, "mode": 0, "base": last, "commands": last, "data": counts[0], "zero": 0, "hole": counts[1]}
         first = "" if layout == 1 else f"layout {layout}\n"
-        check("check", f"0|{first}" + "".join(f"{name} {number}\n" for name, number in numbers.items()) + "|", run("check", path))
+        check("check", (0, first + "".join(f"{name} {number}\n" for name, number in numbers.items()), ""), run("check", path))
         check("lives that were killed", True, killed >= lives // 2)
     print(f"{last} writes over layout {layout} in {lives} lives, {killed} of them killed")
 
@@ -142,8 +127,7 @@ def fill(layout, writes_wanted, lives):
 def main():
     fill(1, 70_000, 14)
     fill(2, 30_000, 6)
-    print(f"{passed} passed, {failed} failed")
-    return failed > 0
+    return checks.finish()
 
 
 if __name__ == "__main__":

@@ -5,11 +5,11 @@ client attaches /dev/nbd0. NBDJ names the program.
 usage: tests/guest.py [TRIAL ..]          (TRIAL: the name of one of the functions below that `TRIALS` lists; by default all, in its order)
 
 It takes some minutes for each trial and 4 GiB of disk, so ./test doesn't run it. It needs root, and of Debian debootstrap, qemu-system-x86 and
-e2fsprogs; what is missing is told, and nothing is tried. debootstrap makes the guest's disk once, in ~/.cache/nbdj-guest; KEEP_LOGS names a
-folder for the guests' consoles. With CACHE=ordered the service has that cache mode, and the trial `power` has to fail, since confirmed records are
-lost then. Prints a line for each trial, and one for each check that fails; last 'N passed, M failed'.
+e2fsprogs; it says what is missing, and then checks nothing. debootstrap makes the guest's disk once, in ~/.cache/nbdj-guest; KEEP_LOGS names a
+folder for the guests' consoles. With CACHE=ordered the service has that cache mode, and the trial `power` has to fail, because confirmed records
+are lost then. Prints a line for each trial, and one for each check that fails; last 'N passed, M failed'.
 
-A power cut is a kill of the guest's QEMU: what the guest hadn't given to its disk is gone, and what it had is there, also where it wasn't synced.
+A power cut is a kill of the guest's QEMU: what the guest hadn't given to its disk is lost; the rest is there, synced or not.
 """
 import contextlib
 import hashlib
@@ -26,7 +26,9 @@ import tarfile
 import tempfile
 import time
 
-TOP = os.path.dirname(os.path.dirname(os.path.abspath(__file__)))
+import checks
+from checks import TOP, check
+
 SUITE, MIRROR = "bookworm", "http://deb.debian.org/debian"
 PACKAGES = ["systemd", "systemd-sysv", "udev", "linux-image-amd64", "kmod", "iproute2", "iputils-arping", "nbd-client", "python3", "python3-libnbd"]
 # Written into the guest's disk: what answers on the port of commands, and the network that QEMU gives.
@@ -52,18 +54,8 @@ CACHE = os.environ.get("CACHE")
 # The parts of ./test that a guest runs: what the program does in the kernel of a whole machine. All of it would take hours without KVM, and
 # release.sh wants the demo to take at most five seconds.
 PARTS = ["streams.sh", "devices.sh"]
-passed, failed = 0, 0
-# What a trial tells beside its time.
+# What a trial prints besides its time.
 told = []
-
-
-def check(name, wanted, got):
-    global passed, failed
-    if wanted == got:
-        passed += 1
-    else:
-        failed += 1
-        print(f"FAILED {name}\n  wanted: {wanted}\n  got:    {got}", flush=True)
 
 
 def read(path):
@@ -72,7 +64,7 @@ def read(path):
 
 
 def made_disk():
-    """The folder with the disk, the kernel and the initial file system of a guest, which is made if it isn't there."""
+    """The folder with the disk, the kernel and the initial file system of a guest, which are made if they don't exist."""
     files = FILES | {place: read(f"{TOP}/{source}") for place, source in BESIDE.items()}
     recipe = json.dumps([SUITE, MIRROR, PACKAGES, files], sort_keys=True)
     folder = os.path.expanduser(f"~/.cache/nbdj-guest/{hashlib.sha256(recipe.encode()).hexdigest()[:16]}")
@@ -113,7 +105,7 @@ class Guest:
         os.mkdir(self.work)
         self.made = made_disk()
         subprocess.run(["cp", "--sparse=always", f"{self.made}/disk", f"{self.work}/disk"], check=True)
-        # The files that it is brought are on its second disk, as a tar archive.
+        # Its second disk is a tar archive of files for it.
         with tarfile.open(f"{self.work}/brought", "w") as archive:
             for path, data in (brought or {}).items():
                 entry = tarfile.TarInfo(path)
@@ -124,7 +116,7 @@ class Guest:
         self.forward = 0
 
     def start(self):
-        """Boots, and returns the seconds until all of its units were there."""
+        """Boots, and returns the seconds until all of its units were up."""
         begin = time.monotonic()
         self.starts += 1
         console = f"{os.environ.get('KEEP_LOGS', self.work)}/{self.name}.{self.starts}.console"
@@ -176,12 +168,12 @@ class Guest:
         os.unlink(f"{self.work}/commands")
 
     def progress(self):
-        """The last number that its writer told."""
+        """The last number that its writer reported."""
         lines = read(f"{self.work}/progress").split("\n")
         return int(lines[-2]) if len(lines) > 1 else 0
 
     def progressed(self, number, seconds):
-        """Waits until the writer has told this number."""
+        """Waits until the writer has reported this number."""
         end = time.monotonic() + seconds
         while time.monotonic() < end:
             if self.progress() >= number:
@@ -260,25 +252,25 @@ def installed(machines):
 
 
 class Load:
-    """A client in a guest that writes and flushes until it is told to end, however often it has to connect anew."""
+    """A client in a guest that writes and flushes until it is stopped, however often it has to reconnect."""
 
     def __init__(self, guest, name, client):
         self.guest, self.name, self.lines = guest, name, f"/root/{name}.lines"
         guest.asked(name, f"rm -f /root/{name}.over; : >{self.lines}; systemd-run --unit={name} --property=RemainAfterExit=yes /bin/sh -c \"exec {client} 0 --until /root/{name}.over --timeout 60 >{self.lines} 2>&1\"")
 
-    def connected_anew(self):
+    def reconnects(self):
         return int(self.guest.run(f"grep -c 'goes on' {self.lines}")[1])
 
     def goes_on(self, way, command):
-        """Under the load the command is carried out, after which the client has to have connected anew."""
-        before = self.connected_anew()
+        """Runs a command under the load; the client has to have reconnected after it."""
+        before = self.reconnects()
         time.sleep(8)
         self.guest.asked(self.name, command)
         for _ in range(90):
             time.sleep(1)
-            if self.connected_anew() > before:
+            if self.reconnects() > before:
                 break
-        check(f"{self.name}: {way}: the client goes on", True, self.connected_anew() > before)
+        check(f"{self.name}: {way}: the client goes on", True, self.reconnects() > before)
 
     def ends(self):
         self.guest.asked(self.name, f"touch /root/{self.name}.over; while systemctl show -p SubState {self.name} | grep -q running; do sleep 1; done", 180)
@@ -289,7 +281,7 @@ class Load:
 
 
 def restarted(machines):
-    """Under load the service is restarted, stopped and killed, and clients start it anew by its socket."""
+    """Under load the service is restarted, stopped and killed, and clients start it again by its socket."""
     guest = machines.server
     load = Load(guest, "load", CLIENT)
     ways = ["systemctl restart nbdj@data", "systemctl stop nbdj@data", "systemctl kill --signal=KILL nbdj@data", "systemctl stop nbdj@data.socket nbdj@data; systemctl start nbdj@data.socket", "kill -9 $(pidof nbdj)"]
@@ -297,7 +289,7 @@ def restarted(machines):
         load.goes_on(way, way)
         check(f"load: {way}: it is active", "active", guest.run("systemctl is-active nbdj@data")[1])
     load.ends()
-    # What a stop stores was answered, and no FLUSH has come.
+    # A stop stores what was answered, without a FLUSH.
     at = f"import nbd; h = nbd.NBD(); h.connect_uri('nbd+unix:///?socket={SOCKET}')"
     guest.asked("a stop", f"python3 -c \"{at}; h.pwrite(b'q' * 4096, 100 << 20); import subprocess; subprocess.run(['systemctl', 'stop', 'nbdj@data'], check=True)\"")
     check("a stop: what it stored", "b'qqqq'", guest.run(f"python3 -c \"{at}; print(bytes(h.pread(4, 100 << 20)))\"")[1])
@@ -313,7 +305,7 @@ def kernel(machines):
     told.append(f"max_sectors_kb {guest.asked(name, f'cat {wanted}')} of itself")
     into = "dd if=/dev/zero of=/dev/nbd0 bs=4M count=2 oflag=direct conv=fsync"
     guest.asked(name, f"echo 1024 >{wanted} && {into}")
-    # (one over the limit of a request is refused, and so the guide has the line)
+    # (a request over the limit is refused, so the guide has the line with max_sectors_kb)
     guest.asked(name, f"echo 4096 >{wanted}")
     check(f"{name}: one of 4 MiB", (1, True), (lambda status, said: (status, "Input/output error" in said))(*guest.run(into)))
     guest.asked(name, "nbd-client -d /dev/nbd0")
@@ -329,7 +321,7 @@ def kernel(machines):
         guest.asked(name, "rm /mnt/n/1 && sync")
         before = int(guest.asked(name, holes()))
         guest.asked(name, "fstrim -v /mnt/n && umount /mnt/n")
-        # (the file system has written something too by then)
+        # (the file system has written something meanwhile)
         grown = int(guest.asked(name, holes())) - before
         told.append(f"a trim made {grown / (1 << 20):.1f} MiB of holes")
         check(f"{name}: a trim makes holes of a file of 16 MiB", True, grown > 8 << 20)
@@ -366,21 +358,21 @@ def power(machines):
         check(f"{name}: records are confirmed", True, peer.progressed(before + 40 * number, 600))
         guest.cut()
         confirmed = peer.progress()
-        # (the kernel's request that has got no answer waits until the device is let go)
+        # (a request of the kernel without an answer waits until the device is released)
         peer.asked(name, f"nbd-client -d /dev/nbd{number - 1}; systemctl stop writes; umount -l /mnt/n; sleep 2")
         took = guest.start()
         confirmed = max(confirmed, peer.progress())
         check(f"{name}: it is active again", "active", guest.run("systemctl is-active nbdj@data")[1])
-        # (another device, since the one before may still be held)
+        # (another device, because the one before may still be in use)
         peer.asked(name, f"{attach}{number} && mount /dev/nbd{number} /mnt/n")
         found = peer.asked(name, "python3 /usr/local/lib/records.py read /mnt/n/records")
-        told.append(f"{confirmed} records confirmed, {found.split()[0]} found, booted anew in {took:.0f} s")
+        told.append(f"{confirmed} records confirmed, {found.split()[0]} found, booted again in {took:.0f} s")
         check(f"{name}: what was confirmed is there", True, int(found.split()[0]) >= confirmed)
     peer.asked("power", "umount /mnt/n && e2fsck -f -n /dev/nbd2; s=$?; nbd-client -d /dev/nbd2; exit $s")
 
 
 def standby(machines):
-    """nbdj-failover@data on one host with a local disk: its sandbox lets it take the address, start anew, and give the address back."""
+    """nbdj-failover@data on one host with a local disk: its sandbox lets it take the address, restart, and give the address back."""
     guest = machines.server
     unit = "nbdj-failover@data"
     guest.asked("standby", "ip link add dummy0 type dummy && ip link set dummy0 up && mkdir -p /srv/nbdj /etc/nbdj && nbdj format /srv/nbdj/data.img --size 16M")
@@ -407,7 +399,7 @@ def standby(machines):
 def fresh(machines):
     """A clone of the repository on a machine that has nothing but Debian: the demo, and parts of ./test."""
     guest = machines.server
-    # (what the demo and `PARTS` need, and not all of tools/install-clients, which takes long)
+    # (what the demo and `PARTS` need; all of tools/install-clients would take long)
     guest.asked("fresh", "echo force-unsafe-io >/etc/dpkg/dpkg.cfg.d/fresh; apt-get update -qq", 600)
     guest.asked("fresh", "DEBIAN_FRONTEND=noninteractive apt-get install -y -qq --no-install-recommends git xz-utils dmsetup fdisk libnbd-bin procps psmisc", 2400)
     guest.asked("fresh", "git clone -q /root/brought/nbdj.bundle /root/nbdj", 600)
@@ -448,13 +440,13 @@ def main():
     unknown = [it for it in names if it not in [trial.__name__ for trial in TRIALS]]
     if unknown:
         sys.exit(f"guest.py: there is no trial {unknown[0]}")
-    # (so that the guests end with it)
+    # (so that the guests end too)
     signal.signal(signal.SIGTERM, lambda *_: sys.exit(1))
     made_disk()
     with tempfile.TemporaryDirectory() as work:
         machines = Machines(work)
         try:
-            # The others are on what the first one sets up.
+            # The others use what the first one sets up.
             for trial in TRIALS:
                 if trial is not installed and names and trial.__name__ not in names:
                     continue
@@ -471,8 +463,7 @@ def main():
                     with contextlib.suppress(OSError):
                         guest.cut()
     print(f"{time.monotonic() - begin:.0f} s")
-    print(f"{passed} passed, {failed} failed")
-    sys.exit(failed > 0)
+    sys.exit(checks.finish())
 
 
 main()

@@ -1,43 +1,30 @@
 #!/bin/sh
 # guestfish over a served image: its appliance, a Linux guest under QEMU, makes a file system on the export, writes files, syncs and trims.
-# The server is stopped and started anew, and then killed while files are written: each file that was synced has to be there.
+# The server is stopped and started again, and then killed while files are written: each file that was synced has to be there.
 # NBDJ names the program.
 #
 # usage: tests/guestfish.sh [OPTION ..]          (further options of `nbdj serve`)
 #
-# With `--cache ordered --flush-interval 0` it has to fail, since synced files are gone then. Without KVM each of the three appliances
+# With `--cache ordered --flush-interval 0` it has to fail, because synced files are lost then. Without KVM each of the three appliances
 # takes a minute or more, so ./test doesn't run it. It needs root, guestfish, nbdinfo and a kernel in /boot, which may all be Debian's
-# (guestfish, libnbd-bin, linux-image-amd64); what is missing is told, and nothing is tried. The last line is 'N passed, M failed'.
+# (guestfish, libnbd-bin, linux-image-amd64); it says what is missing, and then
+# checks nothing. The last line is 'N passed, M failed'.
 set -u
 here=$(CDPATH='' cd "$(dirname "$0")/.." && pwd)
 . "$here/tests/checks.sh"
 server=''
 trap '[ -z "$server" ] || kill -9 $(cat server_pid) "$server" 2>/dev/null; rm -rf "$folder"' EXIT
 begin=$(date +%s)
-
-lacks=''
-[ "$(id -u)" -eq 0 ] || lacks='not root'
-for program in guestfish nbdinfo; do
-    command -v "$program" >/dev/null 2>&1 || lacks="there is no $program"
-done
-ls /boot/vmlinuz-* >/dev/null 2>&1 || lacks='there is no kernel in /boot'
-if [ -n "$lacks" ]; then
-    echo "skipped: $lacks"
-    exit 0
-fi
+need guestfish nbdinfo
+ls /boot/vmlinuz-* >/dev/null 2>&1 || skip_if 'there is no kernel in /boot'
 export LIBGUESTFS_BACKEND=direct LIBGUESTFS_MEMSIZE=512 TMPDIR="$folder"
-uri="nbd+unix:///?socket=$folder/socket"
 
-# serves OPTION..: serves d.img by nbdj-server, and keeps the number of the program itself
+# serves OPTION..: serves d.img by nbdj-server; server_pid has the number of the program itself
 serves() {
     : >heard
     NBDJ="$folder/program" "$here/packaging/nbdj-server" d.img --unix socket "$@" >heard 2>serve_errors &
     server=$!
-    tries=0
-    while ! grep -q '^listening ' heard && [ $tries -lt 400 ] && kill -0 "$server" 2>/dev/null; do
-        sleep 0.1
-        tries=$((tries + 1))
-    done
+    await_listening 40
     is 'the server listens' 'listening socket' "$(cat heard)"
 }
 printf '#!/bin/sh\necho $$ >%s/server_pid\nexec "%s" "$@"\n' "$folder" "$(realpath "$NBDJ")" >program
@@ -53,9 +40,9 @@ fish() {
     [ "$ended" -eq "$2" ] || tail -n 5 errors
     echo "$1: $(($(date +%s) - began)) s"
 }
-# holes: the bytes of the export that are a hole
+# holes: how many bytes of the export are holes
 holes() { nbdinfo --map --totals "$uri" | awk '/hole/ { print $1 }'; }
-# missing_sums FILE: those of these sums that guestfish didn't tell in `output_sums`
+# missing_sums FILE: the sums in this file that aren't in `output_sums` of guestfish
 missing_sums() { sort "$1" >wanted_sums; sort output_sums | comm -23 wanted_sums -; }
 
 mkdir early late
@@ -77,13 +64,13 @@ sync
 rm /early/large
 sync
 fstrim /
-!nbdinfo --map --totals '$uri' >behind
+!nbdinfo --map --totals '$uri' >after
 umount-all
 debug sh "e2fsck -f -n /dev/sda"
 COMMANDS
-trimmed=$(($(awk '/hole/ { print $1 }' behind) - $(awk '/hole/ { print $1 }' before)))
-# (the file system has written something too by then)
-is 'a trim makes holes of the file that is gone' yes "$([ "$trimmed" -ge 16777216 ] && echo yes || echo "$trimmed bytes")"
+trimmed=$(($(awk '/hole/ { print $1 }' after) - $(awk '/hole/ { print $1 }' before)))
+# (the file system has written something meanwhile)
+is 'a trim makes holes of a removed file' yes "$([ "$trimmed" -ge 16777216 ] && echo yes || echo "$trimmed bytes")"
 
 kill -TERM "$server"
 wait "$server"
@@ -92,16 +79,12 @@ serves "$@"
 {
     echo 'mount /dev/sda /'
     echo 'checksums-out sha256 /early output_sums'
-    # (guestfish's own `sync` doesn't tell of a device that failed)
+    # (guestfish's own `sync` doesn't report a failed device)
     for k in $(seq 300); do printf 'upload late/%s /late/%s\ndebug sh "sync /sysroot/late/%s /sysroot/late"\n!echo %s >>synced\n' "$k" "$k" "$k" "$k"; done
 } >load
 : >synced
 (
-    tries=0
-    while [ "$(wc -l <synced)" -lt 20 ] && [ $tries -lt 3000 ]; do
-        sleep 0.2
-        tries=$((tries + 1))
-    done
+    wait_for 600 has_lines synced 20
     kill -9 "$(cat server_pid)"
 ) &
 killer=$!
@@ -110,11 +93,11 @@ wait $killer
 wait "$server"
 is 'the server ended by the kill' 137 "$?"
 is 'the files from before the stop' '' "$(missing_sums early_sums)"
-is 'files were synced up to the kill' yes "$([ "$(wc -l <synced)" -ge 20 ] && echo yes || wc -l <synced)"
+is 'files were synced up to the kill' yes "$(has_lines synced 20 && echo yes || wc -l <synced)"
 sed 's,^,  ./,' synced | while read -r name; do grep -F "  $name" late_sums | grep "  $name\$"; done >synced_sums
 
 serves "$@"
-fish 'behind the kill' 0 <<COMMANDS
+fish 'after the kill' 0 <<COMMANDS
 mount /dev/sda /
 checksums-out sha256 /late output_sums
 umount-all
@@ -124,7 +107,7 @@ is 'the files that were synced' "$(wc -l <synced)" "$(wc -l <synced_sums)"
 is 'each file that was synced is there, whole' '' "$(missing_sums synced_sums)"
 kill -TERM "$server"
 wait "$server"
-is 'a stop behind the kill' 0 "$?"
+is 'a stop after the kill' 0 "$?"
 server=''
-echo "killed behind $(wc -l <synced) synced files; $(($(date +%s) - begin)) s"
+echo "killed after $(wc -l <synced) synced files; $(($(date +%s) - begin)) s"
 the_end

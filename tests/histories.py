@@ -5,11 +5,11 @@ usage: tests/histories.py [--operations N] [--seed S] [--kills K] [--cache MODE]
 
 Twelve clients write, clear, flush and read a few blocks of one image. Half of them use TCP, half a Unix socket; half send one request at a time,
 half up to eight. Each WRITE puts a value of its own into each sector, so what a READ finds names the write. Then the server is killed (SIGKILL) or
-its power is cut: any part stays of what it wrote since the last sync (tests/preloads/undo_calls.c). It starts again over the same image, and the clients go
+its power is cut: then any part of what it wrote since the last sync stays (tests/preloads/undo_calls.c). It starts again over the same image, and the clients go
 on. For each life of the server tests/history_checker.py decides from the requests, the answers, their times and what is left whether one order fits,
 as docs/ASSURANCE.md promises it. This is done for `writeback`, `writethrough` and `ordered`, each over an image of its own.
 
-Not decided: what BLOCK_STATUS tells, because no client asks; writes of parts of sectors, which other tests send; whether and how soon a request is
+Not decided: the answers to BLOCK_STATUS, because no client asks; writes of parts of sectors, which other tests send; whether and how soon a request is
 answered. Times are those of this process, so an order that only the exact times of the server would exclude fits. A life for which neither an order
 nor a contradiction is found counts as undecided, and isn't a failure.
 
@@ -33,33 +33,22 @@ import sys
 import tempfile
 import time
 
+import checks
+from checks import BLOCK, FUA, MIB, NO_HOLE, check, connect, format_image, read_address, build_preload, reply, serve, shake, take_all
 from history_checker import FITS, FLUSH, NEVER, READ, UNDECIDED, WRITE, WRONG, Command, confirmed, judge
 
-TOP = os.path.dirname(os.path.dirname(os.path.abspath(__file__)))
-BLOCK, SECTOR = 4096, 512
+SECTOR = 512
 SECTORS = BLOCK // SECTOR
 # The blocks that clients write, and those after them that are only read: more than there are frames, so that blocks leave memory.
 LIVE, FILLER, FRAMES = 64, 640, 512
 CELLS = range(LIVE * SECTORS)
 AREAS = {1: 2097152, 2: 4194304}
-CODES = {"READ": 0, "WRITE": 1, "FLUSH": 3, "TRIM": 4, "WRITE_ZEROES": 6}
-FUA, NO_HOLE = 1, 2
+CODES = {"READ": checks.READ, "WRITE": checks.WRITE, "FLUSH": checks.FLUSH, "TRIM": checks.TRIM, "WRITE_ZEROES": checks.ZEROES}
 CLIENTS, DEPTH, PER_LIFE, SECONDS = 12, 8, 400, 120
-MIB = 1 << 20
 MODES = {"writeback": 5, "writethrough": 2, "ordered": 3}
-# How often a client asks for what: one that does all, one that writes, one that reads.
+# How often a client sends each kind: one that does everything, one that mostly writes, one that mostly reads.
 KINDS = ("READ", "filler", "WRITE", "WRITE_ZEROES", "TRIM", "FLUSH")
 HABITS = ((40, 3, 38, 6, 4, 6), (12, 1, 66, 8, 5, 8), (75, 8, 10, 2, 1, 4))
-passed, failed = 0, 0
-
-
-def check(name, wanted, got):
-    global passed, failed
-    if wanted == got:
-        passed += 1
-    else:
-        failed += 1
-        print(f"FAILED {name}\n  wanted: {wanted}\n  got:    {got}", flush=True)
 
 
 # Histories that were written by hand, to check the checker. A letter is a client; the last numbers are the times of a request and its answer.
@@ -181,7 +170,7 @@ def some_order(mode, opening, commands, end):
 
 
 def drawn_history(source, most, count):
-    """A history of a right server over a few cells; in every second one a few values are changed."""
+    """A history of a correct server over a few cells; in about every second one some values are changed."""
     opening = {cell: source.choice((0, 900 + cell)) for cell in range(most)}
     commands = []
     for number in range(1, count + 1):
@@ -225,15 +214,6 @@ def check_drawn(seed):
 
 
 # The server, its image, and what a power cut leaves of that.
-
-
-def preloaded(folder, name):
-    """The library that tools/NAME.c makes, to be preloaded."""
-    preload = f"{folder}/{name}.so"
-    if not os.path.exists(preload):
-        words = ["-Wall", "-Werror", "-shared", "-fPIC", "-O2", "-pthread", "-o", preload, f"{TOP}/tests/preloads/{name}.c", "-ldl"]
-        subprocess.run([os.environ.get("CC", "cc"), *words], check=True)
-    return preload
 
 
 def pattern(value, cell):
@@ -303,27 +283,26 @@ class Server:
         self.folder, self.mode, self.source = folder, mode, source
         self.image, self.path, self.log = f"{folder}/{mode}.img", f"{folder}/{mode}", f"{folder}/{mode}.log"
         self.process = self.port = None
-        words = [os.environ["NBDJ"], "format", self.image, "--blocks", str(LIVE + FILLER), "--area", str(AREAS[layout]), "--layout", str(layout)]
-        subprocess.run(words, check=True, stdout=subprocess.DEVNULL)
+        format_image(self.image, "--blocks", str(LIVE + FILLER), "--area", str(AREAS[layout]), "--layout", str(layout))
 
     def launch(self, *more):
         """Starts the process, and draws how slow its syncs are and whether a power cut ends it."""
         source = self.source
         self.is_cut = source.randrange(2)
         slow = source.choice((0, 1000, 4000, 15000))
-        preloads = [preloaded(self.folder, "undo_calls")] * self.is_cut + [preloaded(self.folder, "slow_sync")] * (slow > 0)
+        preloads = [build_preload(self.folder, "undo_calls")] * self.is_cut + [build_preload(self.folder, "slow_sync")] * (slow > 0)
         with contextlib.suppress(FileNotFoundError):
             os.unlink(self.log)
         environment = {**os.environ, "SLOW_SYNC_US": str(slow), "UNDO_IMAGE": self.image, "UNDO_LOG": self.log, "LD_PRELOAD": ":".join(preloads)}
-        words = [os.environ["NBDJ"], "serve", self.image, "--listen", "127.0.0.1:0", "--unix", self.path, "--workers", "16", "--frames", str(FRAMES)]
+        words = ["--listen", "127.0.0.1:0", "--unix", self.path, "--workers", "16", "--frames", str(FRAMES)]
         words += ["--cache", self.mode, "--flush-interval", source.choice(("0.02", "0.2", "1", "0")), *more]
-        self.process = subprocess.Popen(words, env=environment, stdin=subprocess.DEVNULL, stdout=subprocess.PIPE, stderr=subprocess.PIPE, text=True)
+        self.process = serve(self.image, *words, env=environment, stderr=subprocess.PIPE)
 
     def listen(self):
-        told = self.process.stdout.readline().split(), self.process.stdout.readline().split()
-        if [it[:1] for it in told] != [["listening"]] * 2:
-            raise ValueError(f"the server doesn't open the image: {told} {self.process.stderr.read()}")
-        self.port = int(told[0][1])
+        port, path = read_address(self.process), read_address(self.process)
+        if not port or not path:
+            raise ValueError(f"the server doesn't open the image: {self.process.stderr.read()}")
+        self.port = int(port)
 
     def end(self):
         """Kills the process, and cuts the power if that was drawn. What was done."""
@@ -338,40 +317,22 @@ class Server:
             client = socket.create_connection(("127.0.0.1", self.port), timeout=SECONDS)
             client.setsockopt(socket.IPPROTO_TCP, socket.TCP_NODELAY, 1)
         else:
-            client = socket.socket(socket.AF_UNIX)
-            client.settimeout(SECONDS)
-            client.connect(self.path)
-        go = struct.pack(">IHH", 0, 1, 3)
-        client.sendall(struct.pack(">I", 3) + b"IHAVEOPT" + struct.pack(">II", 7, len(go)) + go)
-        taken(client, 18)
-        kind = 0
-        while kind != 1:
-            _, _, kind, length = struct.unpack(">QIII", taken(client, 20))
-            taken(client, length)
+            client = connect(self.path, SECONDS)
+        shake(client)
         return client
 
 
-def taken(client, count):
-    parts = bytearray()
-    while len(parts) < count:
-        piece = client.recv(count - len(parts))
-        if not piece:
-            raise ConnectionError("the server has gone")
-        parts += piece
-    return bytes(parts)
-
-
 def request(kind, cookie, offset=0, length=0, flags=0):
-    return struct.pack(">IHHQQI", 0x25609513, flags, CODES[kind], cookie, offset, length)
+    return checks.request(CODES[kind], cookie, offset, length, flags)
 
 
-def asked(client, kind, offset=0, length=0, data=b""):
+def ask(client, kind, offset=0, length=0, data=b""):
     """Sends a request and waits for its answer; the data of a READ."""
     client.sendall(request(kind, 1, offset, length) + data)
-    reply = taken(client, 16)
-    if reply != struct.pack(">IIQ", 0x67446698, 0, 1):
-        raise ValueError(f"a {kind} was answered {reply.hex()}")
-    return taken(client, length) if kind == "READ" else b""
+    answer = take_all(client, 16)
+    if answer != reply(1):
+        raise ValueError(f"a {kind} was answered {answer.hex()}")
+    return take_all(client, length) if kind == "READ" else b""
 
 
 # The clients.
@@ -387,7 +348,7 @@ class Client:
         self.values = self.cookie = 0
 
     def connect(self, server, is_rare):
-        """Connects. In some lives FLUSH is rare, and no write has FUA."""
+        """Connects. If `is_rare`, FLUSHes are rare and no write has FUA."""
         self.is_rare = is_rare
         self.socket = server.connect(self.by_tcp)
         self.socket.setblocking(False)
@@ -466,7 +427,7 @@ class Client:
         now = time.monotonic_ns()
         while self.waiting and len(self.unread) >= 16:
             command, cookie = self.waiting[0]
-            wanted = struct.pack(">IIQ", 0x67446698, 0, cookie)
+            wanted = reply(cookie)
             if self.unread[:16] != wanted:
                 raise ValueError(f"{command} was answered {self.unread[:16].hex()}, and not {wanted.hex()}")
             is_filler = command.kind == READ and not command.cells
@@ -530,8 +491,8 @@ def live(server, clients, most, source):
     return [it for it in history if it.kind != READ or it.cells], count, how
 
 
-def opened(server, source):
-    """Starts the server and reads all blocks that clients write. Some starts before that are cut short, and some servers are killed after it."""
+def open_image(server, source):
+    """Starts the server and reads all blocks that clients write. Sometimes it is killed during the start before, or after the READs."""
     while source.randrange(5) == 0:
         server.launch()
         time.sleep(source.random() * 0.05)
@@ -539,14 +500,14 @@ def opened(server, source):
     server.launch()
     server.listen()
     with server.connect(source.randrange(2)) as client:
-        cells = dict(zip(CELLS, values_of(CELLS, asked(client, "READ", 0, LIVE * BLOCK))))
+        cells = dict(zip(CELLS, values_of(CELLS, ask(client, "READ", 0, LIVE * BLOCK))))
         if source.randrange(4) == 0:
             for first in range(0, FILLER * BLOCK, MIB):
                 length = min(MIB, FILLER * BLOCK - first)
-                if asked(client, "READ", LIVE * BLOCK + first, length) != FILLED[first:first + length]:
+                if ask(client, "READ", LIVE * BLOCK + first, length) != FILLED[first:first + length]:
                     raise ValueError(f"{length} bytes at {LIVE * BLOCK + first} aren't those that were written there at first")
     if source.randrange(3) == 0:
-        # (The next one has no block in memory.)
+        # (the next server has no block in memory)
         server.end()
         server.launch()
         server.listen()
@@ -560,7 +521,7 @@ def fill(server):
     with server.connect(0) as client:
         for first in range(0, FILLER * BLOCK, MIB):
             length = min(MIB, FILLER * BLOCK - first)
-            asked(client, "WRITE", LIVE * BLOCK + first, length, FILLED[first:first + length])
+            ask(client, "WRITE", LIVE * BLOCK + first, length, FILLED[first:first + length])
     server.process.communicate(timeout=SECONDS)
 
 
@@ -583,14 +544,14 @@ def run(folder, mode, operations, kills, seed, kept, totals):
     clients = [Client(number, f"{seed} {mode}") for number in range(CLIENTS)]
     try:
         fill(server)
-        opening = opened(server, source)
+        opening = open_image(server, source)
         for life in range(1, kills + 1):
             name = f"{mode}, life {life}"
             history, count, how = live(server, clients, (operations + kills - life) // kills, source)
             operations_of_life = sum(1 for it in history if it.answered < NEVER)
             totals.operations += count
             totals.ends[how.partition(" with")[0]] += 1
-            end = opened(server, source)
+            end = open_image(server, source)
             began = time.monotonic()
             verdict, why = judge(mode, opening, history, end)
             totals.seconds += time.monotonic() - began
@@ -619,7 +580,7 @@ def main():
     words.add_argument("--keep")
     words.add_argument("--only-checker", action="store_true")
     given = words.parse_args()
-    # (So that a server doesn't outlive a test that is stopped.)
+    # (so that no server outlives a test that is stopped)
     signal.signal(signal.SIGTERM, lambda *_: sys.exit(1))
     print(f"the seed is {given.seed}", flush=True)
     began = time.monotonic()
@@ -638,8 +599,7 @@ def main():
         ends = ", ".join(f"{count} {end}s" for end, count in totals.ends.items())
         told = ", ".join(f"{totals.verdicts[verdict]} lives {verdict}" for verdict in (FITS, UNDECIDED, WRONG))
         print(f"{totals.operations} requests answered, {ends}; {told}; {time.monotonic() - began:.0f} s, {totals.seconds:.1f} of them to judge")
-    print(f"{passed} passed, {failed} failed")
-    return failed > 0
+    return checks.finish()
 
 
 if __name__ == "__main__":

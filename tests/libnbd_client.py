@@ -1,15 +1,15 @@
 #!/usr/bin/env python3
-"""A client over libnbd that knows what each byte has to hold. tests/clients.sh runs it; each command prints one line, `ok ..` or why not.
+"""A client over libnbd that knows what each byte has to hold. tests/clients.sh runs it; each command prints one line, `ok ..` or what is wrong.
 
-commands URI structured|simple  sends a seeded mix of all commands and flags, of whole blocks, of sectors and of any bytes, and holds each
-                                answer to a model of the image
-refusals URI                    sends what has to be refused
-unasked URI                     is a client that doesn't ask for the sizes of blocks
+commands URI structured|simple  sends a seeded mix of all commands and flags, of whole blocks, of sectors and of any bytes, and compares each
+                                answer with a model of the image
+refusals URI                    sends requests that have to be refused
+unasked URI                     doesn't ask for block sizes
 flood URI LOG FIRST COUNT PID FLUSHES
-                                writes blocks over 4 connections, keeps in LOG what was sent and what a FLUSH or FUA acknowledged, and
-                                kills the process once so many FLUSHes were acknowledged, with further requests on their way
-verify URI LOG                  reads those blocks: each has what was acknowledged last, or what was sent later
-mixed IMAGE A B                 each block of IMAGE is that of the file A or that of the file B, as far as these go
+                                writes blocks over 4 connections, keeps in LOG what was sent and what a FLUSH or FUA confirmed, and kills the
+                                process after FLUSHES confirmed FLUSHes, while further requests are in flight
+verify URI LOG                  reads those blocks: each has what was confirmed last, or what was sent later
+mixed IMAGE A B                 each block of IMAGE is that of the file A or that of the file B, up to their ends
 """
 import errno
 import json
@@ -25,18 +25,18 @@ DATA, ZERO, HOLE = 0, 2, 3
 
 
 def import_nbd():
-    # (only `mixed` does without libnbd)
+    # (here, because `mixed` doesn't need it)
     import nbd
     return nbd
 
 
 def block_of(block, number):
-    """The bytes of a block's write with this number: they differ from block to block, from write to write and from place to place."""
+    """The bytes of the write of a block with this number: they differ by block, write and place."""
     return b"".join(struct.pack(">III", block, number, place) for place in range(BLOCK // 12 + 1))[:BLOCK]
 
 
 def touched(offset, length):
-    """The blocks of which a byte is in the range."""
+    """The blocks that have a byte in the range."""
     return range(offset // BLOCK, (offset + length - 1) // BLOCK + 1)
 
 
@@ -57,7 +57,7 @@ def connected(uri):
 
 
 class Model:
-    """The bytes of an image and the states of its blocks, under requests of any bytes."""
+    """The bytes of an image and the states of its blocks."""
 
     def __init__(self, blocks):
         self.states = [HOLE] * blocks
@@ -69,7 +69,7 @@ class Model:
             self.states[block] = DATA
 
     def zero(self, offset, length, state):
-        """A data block stays data where it is zeroed in part."""
+        """A data block that is zeroed in part stays data."""
         self.data[offset:offset + length] = bytes(length)
         for block in touched(offset, length):
             is_whole = offset <= block * BLOCK and (block + 1) * BLOCK <= offset + length
@@ -77,7 +77,7 @@ class Model:
                 self.states[block] = state
 
     def trim(self, offset, length):
-        """Whole blocks alone become holes."""
+        """Only whole blocks become holes."""
         first, end = (offset + BLOCK - 1) // BLOCK, (offset + length) // BLOCK
         if first < end:
             self.zero(first * BLOCK, (end - first) * BLOCK, HOLE)
@@ -99,17 +99,17 @@ class Model:
 
 
 def any_range(source, size):
-    """Whole blocks, sectors or any bytes, at few places so that they meet one another; some of them at the end."""
+    """A range of whole blocks, sectors or any bytes, at few places so that ranges overlap; some at the end."""
     unit = source.choice([BLOCK, SECTOR, 1])
     near = source.randrange(64 * BLOCK) // unit * unit
     offset = near if source.randrange(2) else size - unit - near
-    # (most are short: about as many end in the block where they begin as behind it)
+    # (most are short: about half end in the block where they begin)
     most = min(MIB, size - offset, source.choice([BLOCK, 4 * BLOCK, MIB]))
     return offset, max(source.randrange(most + 1) // unit * unit, unit)
 
 
 def chunks_of(client, count, offset, flags):
-    """What a structured READ is answered: for each chunk whether it is data, its offset and its length."""
+    """The data of a structured READ, and for each chunk its kind, offset and length."""
     met = []
 
     def chunk(data, place, status, _error):
@@ -137,7 +137,7 @@ def commands(uri, kind):
     structured = kind == "structured"
     client = nbd.NBD()
     client.set_request_structured_replies(structured)
-    # (FUA is allowed on each request; libnbd's own checks would keep it off those that it has no effect on)
+    # (FUA is allowed on each request, but libnbd's own checks would refuse it on some)
     client.set_strict_mode(0)
     if structured:
         client.add_meta_context("base:allocation")
@@ -219,7 +219,7 @@ def refusals(uri):
         ("a WRITE_ZEROES of no byte", errno.EINVAL, lambda: client.zero(0, size)),
         ("a BLOCK_STATUS of no byte", errno.EINVAL, lambda: status_of(client, 0, 5, 0)),
         ("a WRITE that ends a byte past the end", errno.ENOSPC, lambda: client.pwrite(bytes(SECTOR), size - SECTOR + 1)),
-        ("a WRITE behind the end", errno.ENOSPC, lambda: client.pwrite(b"x", size)),
+        ("a WRITE after the end", errno.ENOSPC, lambda: client.pwrite(b"x", size)),
         ("a WRITE_ZEROES that ends a byte past the end", errno.ENOSPC, lambda: client.zero(2, size - 1)),
         ("a TRIM that ends a byte past the end", errno.EINVAL, lambda: client.trim(BLOCK, size - BLOCK + 1)),
         ("a READ that ends a byte past the end", errno.EINVAL, lambda: client.pread(2, size - 1)),
@@ -232,14 +232,14 @@ def refusals(uri):
     for name, wanted, trial in trials:
         try:
             trial()
-            return f"{name} was taken"
+            return f"{name} was accepted"
         except nbd.Error as error:
             if error.errnum != wanted:
                 return f"{name}: {error}"
-    # The session has gone on.
+    # The session goes on.
     client.pwrite(bytes_of(30000, 1000, 1), 30000)
     if client.pread(1000, 30000) != bytes_of(30000, 1000, 1):
-        return "other bytes behind the refusals"
+        return "other bytes after the refusals"
     client.shutdown()
     for name, prepare in [("another export", lambda it: it.set_export_name("another"))]:
         other = nbd.NBD()
@@ -251,14 +251,14 @@ def refusals(uri):
             else:
                 host, _, port = uri.partition("://")[2].strip("/").partition(":")
                 other.connect_tcp(host, port)
-            return f"{name} was taken"
+            return f"{name} was accepted"
         except nbd.Error:
             pass
     return "ok"
 
 
 def unasked(uri):
-    """Nobody has told it the sizes: what is within them is served, also by bytes, and a longer request refused."""
+    """A client that doesn't ask for block sizes is served within them, also by bytes; a longer request is refused."""
     nbd = import_nbd()
     client = nbd.NBD()
     client.set_request_block_size(False)
@@ -274,7 +274,7 @@ def unasked(uri):
             return f"other bytes of {length} at {offset}"
     try:
         client.pwrite(bytes(MIB + SECTOR), 0)
-        return "a WRITE of more than 1 MiB was taken"
+        return "a WRITE of more than 1 MiB was accepted"
     except nbd.Error as error:
         if error.errnum != errno.EINVAL:
             return f"a WRITE of more than 1 MiB: {error}"
@@ -282,7 +282,7 @@ def unasked(uri):
     return "ok"
 
 
-# Writes with what was acknowledged.
+# Writes, and which of them were confirmed.
 
 
 class Flood:
@@ -293,7 +293,7 @@ class Flood:
         self.random_source = random.Random(first + count)
         self.first, self.count = first, count
         self.number = 0
-        # By block: the numbers that were sent, the last one answered, and the last one acknowledged.
+        # By block: the numbers of all writes, of the last one answered, and of the last one confirmed.
         self.sent, self.answered, self.acknowledged = {}, {}, {}
         self.on_their_way = set()
         self.flushing, self.flushes = False, 0
@@ -313,7 +313,7 @@ class Flood:
         return completed
 
     def write(self, index):
-        """A block that has no write on its way gets its next bytes; each fifth write has FUA."""
+        """Writes a block that has no write in flight; about each fifth write has FUA."""
         block = self.first + self.random_source.randrange(self.count)
         if block in self.on_their_way:
             return
@@ -332,7 +332,7 @@ class Flood:
         self.clients[index].aio_pwrite(buffer, block * BLOCK, self.done(index, act), flags)
 
     def flush(self, index):
-        """A FLUSH acknowledges what was answered before it was sent, on whichever connection."""
+        """Sends a FLUSH, which confirms what was answered before, on any connection."""
         before = dict(self.answered)
         self.flushing = True
 
@@ -393,17 +393,17 @@ def verify(uri, log):
     for block, numbers, acknowledged in rows:
         data = client.pread(BLOCK, block * BLOCK)
         number = struct.unpack(">III", data[:12])[1]
-        # (a block of which nothing was acknowledged may be what it was before: a hole)
+        # (a block without a confirmed write may still be a hole)
         is_whole = data == block_of(block, number) if number else data == bytes(BLOCK)
         if not is_whole or number < acknowledged or number not in [0, *numbers]:
-            wrong.append(f"block {block} has {number}, {acknowledged} was acknowledged, {numbers[-1]} sent")
+            wrong.append(f"block {block} has {number}, {acknowledged} was confirmed, {numbers[-1]} sent")
         later += number > acknowledged
         lost += number < numbers[-1]
     client.shutdown()
     confirmed = sum(1 for row in rows if row[2])
     if wrong or not confirmed:
-        return f"{len(wrong)} of {len(rows)} blocks are wrong, of {confirmed} something was acknowledged: {wrong[:3]}"
-    return f"ok {confirmed} blocks acknowledged, {later} have what was sent later, of {lost} something was lost"
+        return f"{len(wrong)} of {len(rows)} blocks are wrong, {confirmed} have a confirmed write: {wrong[:3]}"
+    return f"ok {confirmed} blocks with a confirmed write, {later} have a later one, {lost} lack their last one"
 
 
 def mixed(image, first, second):

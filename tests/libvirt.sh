@@ -4,9 +4,9 @@
 #
 # usage: tests/libvirt.sh
 #
-# libvirtd is one of its own, in a temporary folder, with the settings that Debian ships but for the path of its socket. It needs root, and
-# of Debian qemu-system-x86, libvirt-daemon-system, libvirt-clients, libnbd-bin and python3; what is missing is told, and what needs it is not
-# tried. ./test doesn't run it. The last line is 'N passed, M failed'.
+# It starts a libvirtd of its own, in a temporary folder, with Debian's settings except the path of the socket. It needs root, and of Debian
+# qemu-system-x86, libvirt-daemon-system, libvirt-clients, libnbd-bin and python3; it says what is missing, and leaves out what needs that.
+# ./test doesn't run it. The last line is 'N passed, M failed'.
 set -u
 here=$(CDPATH='' cd "$(dirname "$0")/.." && pwd)
 . "$here/tests/checks.sh"
@@ -19,28 +19,13 @@ release() {
 }
 trap 'release; rm -rf "$folder"' EXIT
 begin=$(date +%s)
-lacks=''
-[ "$(id -u)" -eq 0 ] || lacks='not root'
-for program in qemu-system-x86_64 nbdcopy python3; do
-    command -v "$program" >/dev/null 2>&1 || lacks="there is no $program"
-done
-if [ -n "$lacks" ]; then
-    echo "skipped: $lacks"
-    exit 0
-fi
+need qemu-system-x86_64 nbdcopy python3
+quiet_seconds=120
 page=$here/docs/GUIDE.md
-# (libvirt's machine runs as a user of its own, which has to reach the socket)
+# (libvirt runs the machine as another user, who has to reach the socket)
 chmod 755 "$folder"
 
-# quiet WORD..: its status, and where that isn't 0 what it said
-quiet() {
-    timeout 120 "$@" >output 2>&1 </dev/null
-    status=$?
-    echo "$status"
-    [ $status -eq 0 ] || tail -n 3 output
-}
-
-# A boot sector that reads the second sector by the BIOS and writes it to the ninth, and a second sector of bytes that differ.
+# A boot sector that reads the second sector by the BIOS and writes it to the ninth, and a second sector with a pattern.
 python3 - <<'BOOT'
 code = bytes.fromhex(
     "31c0 8ed8 8ec0 8ed0 bc007c"        # segments 0, a stack
@@ -56,57 +41,41 @@ with open("wanted", "wb") as file:
     file.write(bytes(n * n % 251 for n in range(512)))
 BOOT
 
-# serves WORD..: a new image with the sectors, served
-serves() {
-    rm -f d.img
-    "$NBDJ" format d.img --size 16M --area 8M >/dev/null
+# starts WORD..: serves d.img
+starts() {
     : >heard
     "$here/packaging/nbdj-server" d.img --workers 16 "$@" >heard 2>serve_errors &
     server=$!
-    tries=0
-    until grep -q '^listening ' heard || [ $tries -eq 200 ]; do
-        sleep 0.1
-        tries=$((tries + 1))
-    done
-    at=$(sed -n 's/^listening //p' heard)
-    case $at in
-    */*) uri="nbd+unix:///?socket=$at" ;;
-    *) uri=nbd://127.0.0.1:$at ;;
-    esac
+    await_listening 20
+}
+# serves WORD..: makes a new d.img with the sectors, and serves it
+serves() {
+    rm -f d.img
+    "$NBDJ" format d.img --size 16M --area 8M >/dev/null
+    starts "$@"
     is "the server listens at $1" 0 "$(quiet nbdcopy --flush source "$uri")"
 }
 # ninth: the ninth sector of the export
 ninth() { timeout 60 nbdcopy "$uri" found >&2 && dd if=found bs=512 skip=8 count=1 status=none; }
+is_written() { ninth | cmp -s - wanted; }
 # written NAME: waits until the machine has written its sector
 written() {
-    tries=0
-    until ninth | cmp -s - wanted || [ $tries -eq 240 ]; do
-        sleep 0.5
-        tries=$((tries + 1))
-    done
-    is "$1: the machine writes its sector" yes "$(ninth | cmp -s - wanted && echo yes)"
+    wait_for 180 is_written
+    is "$1: the machine writes its sector" yes "$(is_written && echo yes)"
 }
-# stopped NAME: the server stores what was written, and the sector is in the image when it is opened anew
+# stopped NAME: the server is stopped, and the sector is in the image when it is opened again
 stopped() {
     kill -TERM "$server"
     wait "$server"
     is "$1: a stop" '0|' "$?|$(cat serve_errors)"
-    : >heard
-    "$here/packaging/nbdj-server" d.img --unix "$folder/after" >heard 2>serve_errors &
-    server=$!
-    tries=0
-    until grep -q '^listening ' heard || [ $tries -eq 200 ]; do
-        sleep 0.1
-        tries=$((tries + 1))
-    done
-    uri="nbd+unix:///?socket=$folder/after"
-    is "$1: the sector is in the image" yes "$(ninth | cmp -s - wanted && echo yes)"
+    starts --unix "$folder/after"
+    is "$1: the sector is in the image" yes "$(is_written && echo yes)"
     kill -TERM "$server"
     wait "$server"
     server=''
 }
 
-# The command lines of the page: the first one in one line, and the second one over two.
+# The command lines of the page: the first takes one line, the second two.
 lines=$(sed -n '/^    qemu-system-x86_64 /,/^$/p' "$page" | sed 's/^    //; s/\\$//')
 short=$(printf '%s\n' "$lines" | sed -n 's/^qemu-system-x86_64 \(-drive .*\)/\1/p')
 long=$(printf '%s\n' "$lines" | sed -n '/^qemu-system-x86_64 -device /,$p' | tr '\n' ' ' | sed 's/^qemu-system-x86_64 //')
@@ -134,7 +103,7 @@ if [ -n "$lacks" ]; then
 else
     PATH=$PATH:/usr/sbin:/sbin
     mkdir run
-    # (libvirtd asks the one of the system for logs, where none runs for another)
+    # (libvirtd needs a virtlogd: the system's, or this one)
     if [ ! -S /run/libvirt/virtlogd-sock ]; then
         virtlogd --pid-file "$folder/run/logger.pid" >virtlogd_output 2>&1 &
         logger=$!
@@ -142,14 +111,10 @@ else
     printf 'unix_sock_dir = "%s/run"\nauth_unix_rw = "none"\nauth_unix_ro = "none"\n' "$folder" >libvirtd.conf
     libvirtd --config libvirtd.conf --pid-file "$folder/run/pid" >libvirtd_output 2>&1 &
     daemon=$!
-    tries=0
-    until [ -S run/libvirt-sock ] || [ $tries -eq 300 ]; do
-        sleep 0.1
-        tries=$((tries + 1))
-    done
+    wait_for 30 test -S run/libvirt-sock
     export LIBVIRT_DEFAULT_URI="qemu+unix:///system?socket=$folder/run/libvirt-sock"
     is 'libvirtd answers' 0 "$(quiet virsh version)"
-    # Debian's libvirt runs QEMU as the user libvirt-qemu, with its groups. The socket is for a group, as that of the units is.
+    # Debian's libvirt runs QEMU as the user libvirt-qemu, with its groups. The socket belongs to a group, as that of the units does.
     serves --unix "$folder/socket" --unix-mode 0660
     disk=$(sed -n '/^```xml$/,/^```$/p' "$page" | grep -v '^```' | sed "s,/run/nbdj-data/socket,$folder/socket,")
     is 'the page has the XML of a disk' yes "$(case $disk in "<disk "*"$folder/socket"*"</disk>") echo yes ;; esac)"
@@ -174,9 +139,9 @@ XML
         written "libvirt, $round"
         is "libvirt, $round: its disk" "network|disk|vda" "$(virsh domblklist --details nbdj-test 2>&1 | awk '/vda/ { print $1 "|" $2 "|" $3 }')"
         is "libvirt, $round: stop" 0 "$(quiet virsh destroy nbdj-test)"
-        is "libvirt, $round: its state behind the stop" 'shut off' "$(virsh domstate nbdj-test 2>&1 | head -n 1)"
+        is "libvirt, $round: its state after the stop" 'shut off' "$(virsh domstate nbdj-test 2>&1 | head -n 1)"
         is "libvirt, $round: undefine" 0 "$(quiet virsh undefine nbdj-test)"
-        # The second start has to write the sector anew.
+        # The second start has to write the sector again.
         [ $round = 2 ] || is 'the sector is cleared' 0 "$(quiet nbdcopy --flush source "$uri")"
     done
     stopped libvirt

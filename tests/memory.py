@@ -1,14 +1,14 @@
 #!/usr/bin/env python3
-"""Runs the built program NBDJ again and again, and refuses it another call for memory each time, up to the last one that it makes: over each
-script of tests/scripts, over format, pipe, recover, upgrade and check on a file, and over a server with clients.
+"""Runs the built program NBDJ again and again, and refuses another one of its calls for memory each time, up to the last: with each script of
+tests/scripts, with format, pipe, recover, upgrade and check on a file, and with a server and clients.
 
 usage: tests/memory.py [--built-tests] [--long] [--sample SEED]
 
-With --built-tests so are the tests of each crate that `rt ci` built. With --sample it refuses about one call in eight, drawn from the seed.
-A run of a script that was refused its call has to be that of the same script with one choice made otherwise, which is replayed with memory
-there: by the program itself, or by ORACLE, a command that reads a script and prints what `nbdj rehearse` does. The calls of long tests are
-refused in samples, with --long each. Prints a line for each run that does anything but what a refusal may do, how many runs there were, and
-last 'N passed, M failed': a script, a command and a test are one check each, however many runs that takes.
+--built-tests adds the tests of each crate that `rt ci` built. --sample refuses about one call in eight, drawn from the seed. A script whose call
+was refused has to print what a slightly changed script prints with enough memory; that is run by the program itself, or by ORACLE, a command that
+reads a script and prints what `nbdj rehearse` does. Of long tests only samples of the calls are refused, with --long all. Prints a line for each
+run that does what a refusal must not do, how many runs there were, and last 'N passed, M failed': a script, a command and a test are one check
+each, however many runs that takes.
 """
 import argparse
 import contextlib
@@ -20,7 +20,6 @@ import re
 import shlex
 import shutil
 import signal
-import socket
 import struct
 import subprocess
 import sys
@@ -29,8 +28,12 @@ import threading
 import time
 from concurrent.futures import ThreadPoolExecutor
 
-TOP = os.path.dirname(os.path.dirname(os.path.abspath(__file__)))
-NBDJ = os.environ["NBDJ"]
+import checks
+from checks import (
+    BLOCK, DISC, ENOMEM, FLUSH, HANDSHAKE, NBDJ, READ, TOP, WRITE, ZEROES, check, connect, counting, format_image, read_address, build_preload, reply,
+    serve, shake, take, take_all,
+)
+
 ORACLE = shlex.split(os.environ.get("ORACLE", "")) or [NBDJ, "rehearse"]
 words = argparse.ArgumentParser(description="Refuses the program one call for memory after another.")
 words.add_argument("--built-tests", action="store_true")
@@ -38,38 +41,32 @@ words.add_argument("--long", action="store_true")
 words.add_argument("--sample", type=int, metavar="SEED")
 OPTIONS = words.parse_args()
 LONG = OPTIONS.long
-# One call in so many is refused with --sample.
+# With --sample one call in SPARSE is refused.
 SPARSE = 8
-# How many calls of a built test are refused in turn before they are taken in samples, and how many samples there are then.
+# How many calls of a built test are refused one by one, and how many samples of the later ones.
 IN_TURN, SAMPLES = (10**9, 0) if LONG else (60, 60)
-# Scripts over hundreds of blocks, which --long alone tries.
+# Scripts over hundreds of blocks, which only --long tries.
 LONG_SCRIPTS = {"area_of_half_the_bytes_is_full", "room_after_each_finish", "two_finishes_and_one_clean"}
-BLOCK, BLOCKS = 4096, 16
-READ, WRITE, DISC, FLUSH, ZEROES = 0, 1, 2, 3, 6
-passed, failed, refused = 0, 0, 0
-counting = threading.Lock()
+BLOCKS = 16
+refused = 0
 
 
-def check(name, wanted, got):
-    global passed, failed
-    if wanted == got:
-        passed += 1
-    else:
-        failed += 1
-        print(f"FAILED {name}\n  wanted: {wanted}\n  got:    {got}", flush=True)
+def refusal(call, met):
+    """The variables of a process whose call for memory of this number is refused; it then makes the file `met`."""
+    return {"REFUSE_AT": str(call), "REFUSE_MET": met, "LD_PRELOAD": "./refuse_memory.so"}
 
 
 class Run:
-    """What came of a command: its status, below 0 where a signal or the clock ended it, and what it printed."""
+    """A run of a command: its status, below 0 if a signal or the time limit ended it, and what it printed."""
 
     numbers = itertools.count()
 
     def __init__(self, words, given=b"", call=None, seconds=20):
-        """With `call` the call for memory of that number is refused; `met` says whether it was made."""
+        """With `call` the call for memory with that number is refused; `met` says whether there was such a call."""
         met = f"met-{next(Run.numbers)}"
         environment = dict(os.environ)
         if call is not None:
-            environment |= {"REFUSE_AT": str(call), "REFUSE_MET": met, "LD_PRELOAD": "./refuse.so"}
+            environment |= refusal(call, met)
         with subprocess.Popen(words, stdin=subprocess.PIPE, stdout=subprocess.PIPE, stderr=subprocess.PIPE, env=environment) as process:
             try:
                 self.output, errors = process.communicate(given, timeout=seconds)
@@ -84,19 +81,19 @@ class Run:
         tell_documents(errors)
 
     def ended_for_memory(self):
-        """It says that there is no memory, or that a file can't be opened, which may be for want of it."""
+        """Whether it says that there is no memory, or that a file can't be opened, which may have the same cause."""
         return self.status == 1 and re.fullmatch(r"nbdj: (no memory \(0\)|cannot open .*)", self.errors) is not None
 
 
 def tell_documents(errors):
-    """Keeps what the program told, for the check of the documents."""
+    """Keeps messages of the program, for the check of the documents."""
     if os.environ.get("NBDJ_TOLD") and errors:
         with counting, open(os.environ["NBDJ_TOLD"], "ab") as told:
             told.write(errors)
 
 
 def calls_in_turn(name):
-    """The numbers of the calls to refuse: each in turn, or some of them, drawn from the seed."""
+    """The numbers of the calls to refuse: all, or some drawn from the seed."""
     if OPTIONS.sample is None:
         return itertools.count(1)
     drawn = random.Random(f"{OPTIONS.sample} {name}")
@@ -104,8 +101,8 @@ def calls_in_turn(name):
 
 
 def refuse_each(name, words, given, amiss, whole=lambda run: ""):
-    """Refuses each call of a command in turn, up to the first run that meets none, which has to be as `whole` says. `amiss` says what is
-    wrong with a run that was refused its call; both answer nothing where all is well."""
+    """Refuses each call of a command, up to the first number of a call that it never makes. `amiss` returns what is wrong with a run whose
+    call was refused, `whole` what is wrong with the last run; both return nothing if all is well."""
     wrong, calls = [], 0
     wanted = calls_in_turn(name)
     while batch := list(itertools.islice(wanted, 32)):
@@ -122,20 +119,20 @@ def refuse_each(name, words, given, amiss, whole=lambda run: ""):
 
 
 def conclude(name, calls, wrong):
-    """Counts a check: so many runs were refused a call."""
+    """Makes one check of all runs of a command."""
     global refused
     refused += calls
     for it in wrong[:5]:
         print(f"{name}: {it}", flush=True)
-    check(name, "calls were met, 0 runs were wrong", f"{'calls' if calls else 'no calls'} were met, {len(wrong)} runs were wrong")
+    check(name, "calls were refused, 0 runs were wrong", f"{'calls' if calls else 'no calls'} were refused, {len(wrong)} runs were wrong")
 
 
 # Scripts.
 
 
 class Script:
-    """A script with what it prints when memory is there, and its replays with another choice. A STEP is a line of the script, and AT the
-    first line that it prints, both counted from 1."""
+    """A script with what it prints with enough memory, and changed scripts with what they print. `step` is the number of a line of the
+    script, and `at` that of the first line that it prints, both from 1."""
 
     def __init__(self, path):
         self.name = os.path.basename(path)[: -len(".in")]
@@ -146,7 +143,7 @@ class Script:
         self.replays = {}
 
     def replay(self, lines):
-        """What is printed for these lines with memory there, and the status."""
+        """What these lines print with enough memory, and the status."""
         text = "".join(f"{it}\n" for it in lines)
         if text not in self.replays:
             run = Run(ORACLE, text.encode())
@@ -155,17 +152,17 @@ class Script:
         return list(printed), status
 
     def without(self, step, at):
-        """The script without that step, which prints that it was refused."""
+        """The script with this step refused."""
         printed, status = self.replay(self.lines[: step - 1] + self.lines[step:])
         return printed[: at - 1] + ["failed 0"] + printed[at - 1:], status
 
     def faulty(self, step, at, kind, k):
-        """The script with the k-th call of this kind from that step on failing."""
+        """The script in which the k-th device call of this kind from the step on fails."""
         printed, status = self.replay(self.lines[: step - 1] + [f"fault {kind} {k}"] + self.lines[step - 1:])
         return printed[: at - 1] + printed[at:], status
 
     def unsent(self, step, at):
-        """The script where the request that this step answers is one that the image doesn't take; the answer is ENOMEM."""
+        """The script in which the request that this step answers got ENOMEM."""
         connection = self.lines[step - 1].split()[1]
         sent = max(i for i, line in enumerate(self.lines[: step - 1]) if line.split()[:2] == ["send", connection])
         printed, status = self.replay(self.lines[:sent] + [f"send {connection} put 0 0 41"] + self.lines[sent + 1:])
@@ -173,27 +170,27 @@ class Script:
         return printed, status
 
     def unserved(self, step, at):
-        """The script without the serving of a request that was held before, and without its answer, which is ENOMEM."""
+        """The script in which a request that was held before is answered ENOMEM without being served."""
         connection = self.lines[step - 1].split()[1]
         printed, status = self.replay(self.lines[: step - 2] + self.lines[step:])
         return printed[: at - 2] + ["done", f"answer {connection} error 12"] + printed[at - 2:], status
 
     def copied(self, step, at, count):
-        """The script where a step of several copies was refused behind so many of them."""
+        """The script in which a step of several copies was refused after `count` of them."""
         printed, status = self.replay(self.lines[: step - 1] + [f"copy {count}"] + self.lines[step:])
         return printed[: at - 1] + ["failed 0"] + printed[at:], status
 
     def unmarked(self):
-        """The script with armed crashes that leave what the last good sync left."""
+        """The script in which armed crashes leave what the last good sync left."""
         return self.replay([re.sub(r"^(crash at \d+) .*", r"\1 old", it) for it in self.lines])
 
     def unapplied(self):
-        """The script where a write that was to fail isn't in the device's record: it leaves what was there. So a group whose second write,
-        that of its gate, was to fail is as after a failure of the first one."""
+        """The script in which a write that fails leaves what was there. So if the second write of a group fails, that of its gate, the device
+        is as after a failure of the first one."""
         return self.replay([re.sub(r"^fault write 2$", "fault write 1", it) for it in self.lines])
 
     def step_of(self, at):
-        """Which line of the script printed this line of the wanted output: a crash prints several."""
+        """The line of the script that printed this line of the wanted output; a crash prints several."""
         steps, last = 0, ""
         for line in self.wanted[:at]:
             if not line.startswith("run") and not (line.startswith("opened") and last == "stopped"):
@@ -202,7 +199,7 @@ class Script:
         return steps
 
     def candidates(self, printed, at):
-        """What may be printed where the line `at` is the first that differs: by which step didn't get its memory."""
+        """What may be printed if the line `at` is the first that differs, depending on the step that got no memory."""
         step, got = self.step_of(at), printed[at - 1] if at <= len(printed) else ""
         late = next((i for i, it in enumerate(printed[at:], at + 1) if re.match("answer .* error 12$", it)), None)
         if got == "failed 0":
@@ -214,30 +211,30 @@ class Script:
             if self.lines[step - 2].startswith("serve "):
                 yield self.unserved(step, at)
         elif got.startswith("opened"):
-            # A write that was stopped and isn't in the device's record leaves what was there.
+            # A write that was stopped may have left what was there.
             yield self.unmarked()
             yield self.unapplied()
         elif late:
-            # A READ that got no memory met no device fault, which shows before its answer does.
+            # A READ that got no memory met no device fault; that shows before its answer.
             yield self.unsent(self.step_of(late), late)
-        # A call that isn't in the device's record has failed.
+        # The simulated device couldn't record a call, which then failed.
         for kind in ("write", "sync"):
             for k in range(1, 5):
                 yield self.faulty(step, at, kind, k)
 
     def amiss(self, run):
-        """Why a run that met a refusal isn't one that may be."""
+        """What is wrong with a run whose call was refused."""
         if run.status < 0:
             return f"it ended with {run.status}"
         printed = run.output.decode().splitlines()
         if printed == self.wanted and run.status == 0:
             return ""
         at = next((i for i, (one, other) in enumerate(zip(printed, self.wanted), 1) if one != other), min(len(printed), len(self.wanted)) + 1)
-        # The program tells that there is no memory.
+        # The program says that there is no memory.
         if run.status == 1 and len(printed) < at and run.errors == "nbdj: no memory (0)":
             return ""
-        # A format or an opening is refused, for want of memory, or since the device's record of its call can't grow; so is an opening into
-        # whose calls a crash would have fallen.
+        # A format or an opening is refused because memory or the record of a device call was refused; so is an opening in which a crash
+        # was armed.
         if run.status == 1 and len(printed) == at and printed[-1] in ("failed 0", "failed 1") and not run.errors:
             if at == 1 or self.wanted[at - 1: at] == ["stopped"] or "opened" in "".join(self.wanted[at - 1: at]):
                 return ""
@@ -261,11 +258,11 @@ def refuse_scripts():
         )
 
 
-# Commands on a file. An end for want of memory leaves an image that opens with a beginning of what was sent, or, while it is formatted, none.
+# Commands on a file. If memory runs out, they leave an image with a prefix of what was sent; `format` leaves the old file.
 
 
 def request(kind, cookie, offset, data=b"", flags=0, length=None):
-    return struct.pack(">IHHQQI", 0x25609513, flags, kind, cookie, offset, len(data) if length is None else length) + data
+    return checks.request(kind, cookie, offset, len(data) if length is None else length, flags) + data
 
 
 def filled(letter):
@@ -280,7 +277,7 @@ def image_of(image):
 
 
 class FileCommand:
-    """A command on a copy of an image, which is refused one call."""
+    """A command on a copy of an image, with one call refused."""
 
     def __init__(self, words, image, given, call):
         self.image = image_of(image)
@@ -295,7 +292,7 @@ class FileCommand:
 
 
 def refuse_on_file(name, words, image, amiss, whole, given=b""):
-    """As `refuse_each`, each run on an image of its own; `amiss` and `whole` look at the file too."""
+    """As `refuse_each`, with a new copy of the image for each run, at which `amiss` and `whole` look too."""
     wrong, calls = [], 0
     for call in calls_in_turn(name):
         with contextlib.closing(FileCommand(words, image, given, call)) as tried:
@@ -307,8 +304,8 @@ def refuse_on_file(name, words, image, amiss, whole, given=b""):
     conclude(name, calls, wrong)
 
 
-def recovered(image):
-    """What the program says of the last command when it recovers an image."""
+def recover(image):
+    """What the program prints when it recovers an image."""
     run = Run([NBDJ, "recover", image])
     return run.output.decode().strip() or run.errors
 
@@ -331,7 +328,7 @@ def refuse_format():
 PIPED = [
     request(WRITE, 1, 0, filled(b"A")),
     request(FLUSH, 2, 0),
-    # (of blocks 0 and 1 a byte and two, whose other bytes are taken with them; and an edge)
+    # (a byte of block 0 and two of block 1, so old bytes are read; then a command with an edge)
     request(WRITE, 3, BLOCK - 1, b"BBB", flags=1),
     request(ZEROES, 4, 5, length=2 * BLOCK),
     request(DISC, 5, 0),
@@ -339,21 +336,21 @@ PIPED = [
 
 
 def refuse_pipe():
-    wanted = b"".join(struct.pack(">IIQ", 0x67446698, 0, it) for it in range(1, 5))
+    wanted = b"".join(reply(it) for it in range(1, 5))
 
     def amiss(tried):
         run = tried.run
         if run.status != 0 and not run.ended_for_memory():
             return f"status {run.status}, {run.errors}"
-        # Each reply is that of the whole run, or says ENOMEM. What the FLUSH and the FUA write say is stored: one write, and two.
+        # Each reply is that of the whole run, or ENOMEM. An Ok of the FLUSH confirms one write, that of the FUA write two.
         stored = 0
         for at in range(0, len(run.output), 16):
-            reply = run.output[at: at + 16]
-            if reply == wanted[at: at + 16]:
+            answer = run.output[at: at + 16]
+            if answer == wanted[at: at + 16]:
                 stored = {16: 1, 32: 2}.get(at, stored)
-            elif reply != struct.pack(">IIQ", 0x67446698, 12, at // 16 + 1):
-                return f"a reply {reply.hex()}"
-        found = re.fullmatch(r"commands ([0-3])", recovered(tried.image))
+            elif answer != reply(at // 16 + 1, ENOMEM):
+                return f"a reply {answer.hex()}"
+        found = re.fullmatch(r"commands ([0-3])", recover(tried.image))
         if not found or (int(found[1]) < stored and run.status != 0):
             return f"found {found and found[0]}, stored {stored}"
         return ""
@@ -362,17 +359,17 @@ def refuse_pipe():
 
 
 def group_of(number, block, byte):
-    """The bytes of a group with one command, which fills a block, and the closed gate behind it."""
+    """The bytes of a group with one put of a block, and the closed gate after it."""
     body = struct.pack(">BQI", 1, block, 1) + filled(byte)
     return b"\x01" + struct.pack(">IQI", len(body), number, 1) + body + b"\x00"
 
 
 def fill_areas(image, layout):
-    """Writes an image all of whose areas are in use, as a crash may leave it: each has one group, which fills a block."""
-    Run([NBDJ, "format", image, "--blocks", str(BLOCKS), "--area", "4194304", "--layout", str(layout)])
+    """Writes an image with all areas in use, as a crash may leave it: each has one group, which fills a block."""
+    format_image(image, "--blocks", str(BLOCKS), "--area", "4194304", "--layout", str(layout))
     areas = 2 * layout
     with open(image, "r+b") as file:
-        # (layout 1 counts the areas in front of the last, layout 2 all of them)
+        # (the byte of the areas in use: their number, in layout 1 less one)
         file.seek(29)
         file.write(bytes([areas if layout == 2 else areas - 1]))
         for area in range(areas):
@@ -381,13 +378,13 @@ def fill_areas(image, layout):
 
 
 def refuse_opening(name, words, image, number, printed):
-    """As `refuse_on_file`, of a command that opens an image: whatever it left, that is recovered with this number."""
+    """As `refuse_on_file`, for a command that opens an image: a later recovery always finds this number."""
 
     def amiss(tried):
         if tried.run.status != 0 and not tried.run.ended_for_memory():
             return f"status {tried.run.status}, {tried.run.errors}"
-        # What ends for want of memory is carried on by the next opening.
-        found = recovered(tried.image)
+        # The next opening finishes what ended because memory ran out.
+        found = recover(tried.image)
         return "" if found == f"commands {number}" else f"found {found}"
 
     refuse_on_file(name, words, image, amiss, lambda tried: "" if tried.run.output == printed else "another line")
@@ -397,7 +394,7 @@ def refuse_openings():
     shutil.copyfile("fresh.img", "stored.img")
     Run([NBDJ, "pipe", "stored.img"], b"".join(PIPED))
     refuse_opening("recover", ["recover", "IMAGE"], "stored.img", 3, b"commands 3\n")
-    # A header, a map and a list of each area are read, and each rotation, copy and map of the recovery is made.
+    # These openings read the lists of several areas, and make several checkpoints.
     fill_areas("two.img", 1)
     fill_areas("four.img", 2)
     refuse_opening("recover with two areas in use", ["recover", "IMAGE"], "two.img", 2, b"commands 2\n")
@@ -424,99 +421,72 @@ def refuse_check(name, image):
 # A server with clients.
 
 
-class Gone(Exception):
-    """The connection has ended."""
-
-
 class Client:
-    """A client of a server at a Unix socket, with simple replies. It notes which answers were ENOMEM."""
+    """A client at a Unix socket, with simple replies. It counts the answers that were ENOMEM."""
 
     def __init__(self, path):
-        self.socket = socket.socket(socket.AF_UNIX)
-        self.socket.settimeout(20)
         self.refused = 0
-        self.path = path
-
-    def take(self, count):
-        found = b""
-        while len(found) < count:
-            piece = self.socket.recv(count - len(found))
-            if not piece:
-                raise Gone
-            found += piece
-        return found
-
-    def shake(self):
-        self.socket.connect(self.path)
-        go = struct.pack(">IHH", 0, 1, 3)
-        self.socket.sendall(struct.pack(">I", 3) + b"IHAVEOPT" + struct.pack(">II", 7, len(go)) + go)
-        self.take(18)
-        kind = 3
-        while kind == 3:
-            _, _, kind, length = struct.unpack(">QIII", self.take(20))
-            self.take(length)
-        if kind != 1:
-            raise ValueError(f"the handshake is answered {kind:x}")
+        self.socket = connect(path)
+        shake(self.socket)
 
     def ask(self, kind, cookie, offset, data=b"", length=0):
         """The bytes of a READ, or whether another request is answered Ok."""
         self.socket.sendall(request(kind, cookie, offset, data, length=length or len(data)))
-        magic, error, echoed = struct.unpack(">IIQ", self.take(16))
-        if (magic, echoed) != (0x67446698, cookie) or error not in (0, 12):
-            raise ValueError(f"a reply {magic:x}, {error}, {echoed}")
-        if error:
+        if not self.is_done(cookie):
             self.refused += 1
             return None
-        return self.take(length) if kind == READ else True
+        return take_all(self.socket, length) if kind == READ else True
+
+    def is_done(self, cookie):
+        """Whether the next reply is Ok, and not ENOMEM; it has to be one of them."""
+        answer = take_all(self.socket, 16)
+        if answer not in (reply(cookie), reply(cookie, ENOMEM)):
+            raise ValueError(f"a reply {answer.hex()} to request {cookie}")
+        return answer == reply(cookie)
 
     def close(self):
         self.socket.close()
 
 
 def converse(path, block):
-    """Writes a block, reads it, and flushes. How many answers were ENOMEM, 9 where the connection was lost, and whether the block is known to
+    """Writes a block, reads it, and flushes. How many answers were ENOMEM, 9 if the connection was lost, and whether the block is known to
     be stored."""
     written = flushed = False
-    with contextlib.closing(Client(path)) as client:
-        try:
-            client.shake()
+    try:
+        with contextlib.closing(Client(path)) as client:
             written = client.ask(WRITE, 1, block * BLOCK, filled(b"ABC"[block: block + 1]))
             seen = client.ask(READ, 2, block * BLOCK, length=BLOCK)
             if written and seen is not None and seen != filled(b"ABC"[block: block + 1]):
                 raise ValueError("a READ shows other bytes")
             flushed = client.ask(FLUSH, 3, 0)
             client.socket.sendall(request(DISC, 4, 0))
-        except (Gone, OSError):
-            return 9, bool(written and flushed)
-        return client.refused, bool(written and flushed)
+            return client.refused, bool(written and flushed)
+    except OSError:
+        return 9, bool(written and flushed)
 
 
-# Where each WRITE of a client begins that sends them all at once, and how many blocks it has; one is longer than a piece that is read.
+# First block and length of each WRITE of a client that sends all of them at once; the third is longer than what the server reads at a time.
 SENT = [(8, 1), (9, 1), (10, 24), (40, 1), (41, 1)]
 
 
 def converse_at_once(path):
-    """Sends several WRITEs before it reads an answer. How many answers were ENOMEM, 9 where the connection was lost, and of each WRITE whether
-    it was answered Ok, or None where there was no answer."""
+    """Sends several WRITEs before it reads an answer. How many answers were ENOMEM, 9 if the connection was lost, and of each WRITE whether
+    it was answered Ok, or None if there was no answer."""
     answers = []
-    with contextlib.closing(Client(path)) as client:
-        try:
-            client.shake()
+    try:
+        with contextlib.closing(Client(path)) as client:
             client.socket.sendall(b"".join(request(WRITE, it, first * BLOCK, filled(b"E") * blocks) for it, (first, blocks) in enumerate(SENT)))
             for cookie in range(len(SENT)):
-                magic, error, echoed = struct.unpack(">IIQ", client.take(16))
-                if (magic, echoed) != (0x67446698, cookie) or error not in (0, 12):
-                    raise ValueError(f"a reply {magic:x}, {error}, {echoed}")
-                answers.append(not error)
+                answers.append(client.is_done(cookie))
             client.socket.sendall(request(DISC, 9, 0))
-        except (Gone, OSError):
-            return 9, answers + [None] * (len(SENT) - len(answers))
-        return answers.count(False), answers
+            return answers.count(False), answers
+    except OSError:
+        return 9, answers + [None] * (len(SENT) - len(answers))
 
 
 def judge_sent(answers, found):
-    """A WRITE that was answered Ok is there, one that was refused isn't, and of those without an answer the first ones: what a session didn't
-    hand over, as its memory was refused, is nowhere."""
+    """What is wrong with the WRITEs that are found: one answered Ok has to be there, a refused one must not be, and of those without an answer
+    a prefix is there."""
     unknown = []
     for (first, blocks), answer in zip(SENT, answers):
         there = [found(block) == filled(b"E") for block in range(first, first + blocks)]
@@ -526,43 +496,45 @@ def judge_sent(answers, found):
     return f"of the WRITEs without an answer these are there: {unknown}" if unknown != sorted(unknown, reverse=True) else ""
 
 
-# A line that a server may tell while it goes on: of memory that is refused while something is stored, and of a client that comes before the
-# one before it is let go.
+# Lines that the server may log while it goes on.
 GOES_ON = re.compile(r"nbdj: [^:]*: (no memory to store what was written, which is tried again|all \d+ workers have a client, and further ones wait|\d+ lines left out)")
 
 
+def was_met(image, path, met):
+    """Whether a call was refused, which the file `met` tells; the files of the server are removed."""
+    is_met = os.path.exists(met)
+    for it in (image, path, met):
+        with contextlib.suppress(FileNotFoundError):
+            os.unlink(it)
+    return is_met
+
+
 def serve_refused(call):
-    """A server that is refused one call, with four clients one after another: what is amiss, and whether the call was met."""
+    """A server with one call refused, and four clients one after another: what is wrong, and whether there was such a call."""
     name = f"served-{next(Run.numbers)}"
     image, path, met = f"{name}.img", f"{name}.sock", f"{name}.met"
     shutil.copyfile("wide.img", image)
-    environment = dict(os.environ) | {"REFUSE_AT": str(call), "REFUSE_MET": met, "LD_PRELOAD": "./refuse.so"}
-    words = [NBDJ, "serve", image, "--unix", path, "--sessions", "4", "--workers", "1", "--frames", "512"]
-    with subprocess.Popen(words, stdin=subprocess.DEVNULL, stdout=subprocess.PIPE, stderr=subprocess.PIPE, env=environment) as server:
-        # A server that hangs is ended by a signal, which its status tells.
+    words = ["--unix", path, "--sessions", "4", "--workers", "1", "--frames", "512"]
+    with serve(image, *words, stderr=subprocess.PIPE, env={**os.environ, **refusal(call, met)}) as server:
+        # (a server that hangs is killed, which its status shows)
         limit = threading.Timer(30, server.kill)
         limit.start()
         try:
-            listening = server.stdout.readline().startswith(b"listening")
-            talks = [converse(path, 0), converse_at_once(path), converse(path, 1), converse(path, 2)] if listening else []
+            talks = [converse(path, 0), converse_at_once(path), converse(path, 1), converse(path, 2)] if read_address(server) else []
             told = server.communicate()[1]
         except ValueError as error:
             server.kill()
             return f"{error}", os.path.exists(met)
         finally:
             limit.cancel()
-    tell_documents(told)
-    amiss = judge_served(server.returncode, told.decode().strip(), talks, image)
-    was_met = os.path.exists(met)
-    for it in (image, path, met):
-        with contextlib.suppress(FileNotFoundError):
-            os.unlink(it)
-    return amiss, was_met
+    tell_documents(told.encode())
+    amiss = judge_served(server.returncode, told.strip(), talks, image)
+    return amiss, was_met(image, path, met)
 
 
 def judge_served(status, errors, talks, image):
-    """One client at most is refused something; the server goes on, or ends for want of memory before it says that it listens; what was
-    flushed is there."""
+    """What is wrong with a server whose call was refused: at most one client may get ENOMEM or lose its connection; the server may end only
+    before it listens; what was flushed has to be there."""
     errors = "\n".join(line for line in errors.splitlines() if not GOES_ON.fullmatch(line))
     harmed = [it for it in talks if it[0]]
     if status == 1 and errors == "nbdj: no memory (0)":
@@ -580,102 +552,80 @@ def judge_served(status, errors, talks, image):
     for block, (_, flushed) in enumerate(known):
         if flushed and found(block) != filled(b"ABC"[block: block + 1]):
             return f"block {block} was flushed and isn't there"
-    # (A server that ends for want of memory may leave unstored what wasn't flushed.)
+    # (a server that ended because memory ran out needn't have stored what wasn't flushed)
     return judge_sent(talks[1][1], found) if status == 0 else ""
 
 
 def talk_while_short(path):
-    """Writes blocks and flushes them twice. Whether the first FLUSH was answered Ok, so the blocks are stored; an answer that doesn't come
-    within 15 seconds is an error of the clock's."""
-    with contextlib.closing(socket.socket(socket.AF_UNIX)) as client:
-        client.settimeout(15)
-        try:
-            client.connect(path)
-            client.sendall(struct.pack(">I", 3) + b"IHAVEOPT" + struct.pack(">II", 7, 8) + struct.pack(">IHH", 0, 1, 3))
-            greeting = receive(client, 18 + 32 + 34 + 20)
-            if len(greeting) < 104:
+    """Writes blocks and flushes twice; whether the first FLUSH was answered Ok, so that the blocks are stored. A TimeoutError after 15
+    seconds."""
+    try:
+        with connect(path, 15) as client:
+            client.sendall(HANDSHAKE)
+            if len(take(client, 104)) < 104:
                 return False
             asked = [request(WRITE, it, it * BLOCK, filled(b"S")) for it in range(4)] + [request(FLUSH, 4, 0), request(FLUSH, 5, 0)]
             client.sendall(b"".join(asked))
-            replies = receive(client, 16 * len(asked))
-        except (ConnectionError, FileNotFoundError):
-            return False
+            replies = take(client, 16 * len(asked))
+    except (ConnectionError, FileNotFoundError):
+        return False
     errors = [struct.unpack_from(">IIQ", replies, at)[1] for at in range(0, len(replies) - 15, 16)]
     return len(errors) > 4 and not any(errors[:5])
 
 
-def receive(client, count):
-    """So many bytes; fewer where the server closes."""
-    found = b""
-    while len(found) < count and (piece := client.recv(count - len(found))):
-        found += piece
-    return found
-
-
 def serve_short(call):
-    """A server that is refused all calls from this one on, with three clients at once: each is answered or cut off, and the server ends once
-    it is asked to. What is amiss, and whether the call was met."""
+    """A server with all calls from this one on refused, and three clients at once. Each has to be answered or disconnected, and the server
+    has to stop when its input ends. What is wrong, and whether there was such a call."""
     name = f"short-{next(Run.numbers)}"
     image, path, met = f"{name}.img", f"{name}.sock", f"{name}.met"
     shutil.copyfile("wide.img", image)
-    environment = dict(os.environ) | {"REFUSE_AT": str(call), "REFUSE_ON": "1", "REFUSE_MET": met, "LD_PRELOAD": "./refuse.so"}
-    words = [NBDJ, "serve", image, "--unix", path, "--workers", "3", "--frames", "512", "--until-eof"]
-    with subprocess.Popen(words, stdin=subprocess.PIPE, stdout=subprocess.PIPE, stderr=subprocess.PIPE, env=environment) as server:
+    words = ["--unix", path, "--workers", "3", "--frames", "512", "--until-eof"]
+    environment = {**os.environ, **refusal(call, met), "REFUSE_ON": "1"}
+    with serve(image, *words, stdin=subprocess.PIPE, stderr=subprocess.PIPE, env=environment) as server:
         amiss, stored = "", False
         try:
-            listening = server.stdout.readline().startswith(b"listening")
-            if listening:
+            listened = read_address(server) != ""
+            if listened:
                 with ThreadPoolExecutor(3) as clients:
                     stored = any(clients.map(talk_while_short, [path] * 3))
-            errors = server.communicate(timeout=40)[1].decode().splitlines()
+            errors = server.communicate(timeout=40)[1].splitlines()
             told = [line for line in errors if not GOES_ON.fullmatch(line)]
-            if (server.returncode, told, listening) not in [(0, [], True), (1, ["nbdj: no memory (0)"], False), (1, ["nbdj: device fault (1)"], True)]:
+            if (server.returncode, told, listened) not in [(0, [], True), (1, ["nbdj: no memory (0)"], False), (1, ["nbdj: device fault (1)"], True)]:
                 amiss = f"status {server.returncode}, {errors}"
         except (subprocess.TimeoutExpired, TimeoutError) as error:
             server.kill()
             amiss = f"{error!r}"
     asked = b"".join(request(READ, it, it * BLOCK, length=BLOCK) for it in range(4)) + request(DISC, 5, 0)
     found = Run([NBDJ, "pipe", image], asked).output
-    if stored and found != b"".join(struct.pack(">IIQ", 0x67446698, 0, it) + filled(b"S") for it in range(4)):
+    if stored and found != b"".join(reply(it) + filled(b"S") for it in range(4)):
         amiss = amiss or "what was flushed isn't there"
-    was_met = os.path.exists(met)
-    for it in (image, path, met):
-        with contextlib.suppress(FileNotFoundError):
-            os.unlink(it)
-    return amiss, was_met
+    return amiss, was_met(image, path, met)
 
 
-def refuse_serve_on():
-    """From some call on all are refused, to the end: later and later ones, up to the last that a server makes."""
+def refuse_servers(name, tried, numbers, at_once):
+    """Refuses calls of servers, up to the first number of a call that is never made."""
     wrong, calls = [], 0
-    wanted = itertools.accumulate(itertools.cycle((1, 5, 9)))
-    while batch := list(itertools.islice(wanted, 12)):
-        runs = list(pool.map(serve_short, batch))
-        wrong += [f"from call {call} on: {amiss}" for call, (amiss, _) in zip(batch, runs) if amiss]
-        calls += sum(met for _, met in runs)
-        if not runs[-1][1]:
-            break
-    conclude("serve without memory from some call on", calls, wrong)
-
-
-def refuse_serve():
-    wrong, calls = [], 0
-    subprocess.run([NBDJ, "format", "wide.img", "--blocks", "64", "--area", "2097152"], check=True, stdout=subprocess.DEVNULL)
-    wanted = calls_in_turn("serve")
-    while batch := list(itertools.islice(wanted, 16)):
-        runs = list(pool.map(serve_refused, batch))
+    while batch := list(itertools.islice(numbers, at_once)):
+        runs = list(pool.map(tried, batch))
         wrong += [f"call {call}: {amiss}" for call, (amiss, _) in zip(batch, runs) if amiss]
         calls += sum(met for _, met in runs)
         if not runs[-1][1]:
             break
-    conclude("serve", calls, wrong)
+    conclude(name, calls, wrong)
+
+
+def refuse_serve():
+    """One call is refused; then all calls from some number on, up to the last that a server makes."""
+    format_image("wide.img", "--blocks", "64", "--area", "2097152")
+    refuse_servers("serve", serve_refused, calls_in_turn("serve"), 16)
+    refuse_servers("serve without memory from some call on", serve_short, itertools.accumulate(itertools.cycle((1, 5, 9))), 12)
 
 
 # Built tests.
 
 
 def calls_to_refuse():
-    """Each of the first calls, and then ever fewer of the later ones."""
+    """The numbers of the first calls, and fewer and fewer of the later ones."""
     yield from range(1, IN_TURN + 1)
     step, call = 1.0, float(IN_TURN)
     for _ in range(SAMPLES):
@@ -685,25 +635,25 @@ def calls_to_refuse():
 
 
 def refuse_test(built, test):
-    """A test that memory is refused ends by itself: it passes, or it says where it stopped, but one that is about refused memory stops at none
-    of what it asserts. Some need no memory."""
+    """Refuses the calls of a test. It has to end by itself: to pass, or to say where it stopped. A test of refused memory must not stop at
+    an assertion. Some tests need no memory."""
     name = f"{os.path.basename(built)}, {test}"
     began = time.monotonic()
     whole = Run([built, test])
     if whole.status != 0:
         return conclude(name, 1, [f"status {whole.status} with all memory"])
     if time.monotonic() - began > 0.5 and not LONG:
-        return print(f"with --long alone: {name}, since it takes more than half a second", flush=True)
+        return print(f"only with --long: {name}, because it takes more than half a second", flush=True)
     ends = "^test result: ok|^the test failed" if "refused_memory" in test else "^test result: ok|^the test failed|^test stopped at"
     wrong, calls = [], 0
     wanted = calls_to_refuse()
     while batch := list(itertools.islice(wanted, 32)):
-        # (a test over sockets waits for up to half a minute where a thread couldn't be started)
+        # (a test over sockets waits up to half a minute if a thread couldn't be started)
         runs = list(pool.map(lambda call: Run([built, test], b"", call, seconds=60), batch))
         for call, run in zip(batch, runs):
             calls += run.met
             said = run.output.decode(errors="replace") + run.errors
-            # (a test that stops ends by the signal of an abort)
+            # (a test that stops ends by SIGABRT)
             if run.met and (run.status == -signal.SIGKILL or not re.search(ends, said, re.MULTILINE)):
                 wrong.append(f"call {call}: status {run.status}")
         if not runs[-1].met:
@@ -723,9 +673,8 @@ def refuse_tests():
 
 with tempfile.TemporaryDirectory() as folder, ThreadPoolExecutor(len(os.sched_getaffinity(0))) as pool:
     os.chdir(folder)
-    source = f"{TOP}/tests/preloads/refuse_memory.c"
-    subprocess.run([os.environ.get("CC", "cc"), "-Wall", "-Werror", "-shared", "-fPIC", "-O2", "-o", "refuse.so", source, "-ldl"], check=True)
-    subprocess.run([NBDJ, "format", "fresh.img", "--blocks", str(BLOCKS), "--area", "2097152"], check=True, stdout=subprocess.DEVNULL)
+    build_preload(".", "refuse_memory")
+    format_image("fresh.img", "--blocks", str(BLOCKS), "--area", "2097152")
     refuse_scripts()
     refuse_format()
     refuse_pipe()
@@ -733,9 +682,7 @@ with tempfile.TemporaryDirectory() as folder, ThreadPoolExecutor(len(os.sched_ge
     refuse_check("check", "stored.img")
     refuse_check("check with four areas in use", "four.img")
     refuse_serve()
-    refuse_serve_on()
     if OPTIONS.built_tests or LONG:
         refuse_tests()
     print(f"{refused} runs with memory refused")
-    print(f"{passed} passed, {failed} failed")
-    sys.exit(failed > 0)
+    sys.exit(checks.finish())

@@ -3,13 +3,14 @@
 
 usage: tests/ordered.py [--cuts N] [--seed N] [--only SERVER] [--keep]
 
-SQLite in two journal modes, and PostgreSQL and MariaDB if they are installed, commit on ext4 that sends its flushes, until the server and its disk stop at one
-moment. The disk then keeps what was synced, and any bytes in the rest. After the recovery of each layer the file system has to be clean, and each database whole: no row is missing
-before the last one. Commits that were told may be gone. The same load runs over two more servers: `--cache writeback`, where none may be gone;
-and nbdkit with a file system that sends no flushes (barrier=0), which some cut has to corrupt: otherwise these checks show nothing.
+SQLite in two journal modes, and PostgreSQL and MariaDB if they are installed, commit on ext4 that sends its flushes, until the server and its
+disk stop at one moment. The disk then keeps what was synced, and may have any bytes in the rest. After the recovery of each layer the file
+system has to be clean and each database whole: no row is missing before the last one. Confirmed commits may be lost. The same load runs over two
+more servers: `--cache writeback`, where none may be lost; and nbdkit under a file system that sends no flushes (barrier=0), which some cut has
+to corrupt: otherwise these checks show nothing.
 
-Root alone can mount, so without it, or without a client that it needs, the script says so and checks nothing. It prints a line for each cut, one for
-each check that fails, and last 'N passed, M failed'.
+Only root can mount, so without it, or without a client that it needs, the script says so and checks nothing. It prints a line for each cut, one
+for each check that fails, and last 'N passed, M failed'.
 """
 import argparse
 import os
@@ -19,37 +20,30 @@ import sys
 import tempfile
 import time
 
-import hostile
-from cut_chain import ENVIRONMENT, Chain, CutDisk, awaited, drawn_from, isolate, run, unmount
-from databases import MariaDb, Postgres, Sqlite
-from hostile import NBDJ, check
+import checks
+from checks import NBDJ, check, format_image
+from cut_chain import ENVIRONMENT, Chain, CutDisk, await_socket, random_from, isolate, run, unmount
+from databases import MariaDb, Postgres, Sqlite, make_file_system
 
 SIZE = 384 << 20
 DATABASES = [it for it in (Sqlite("wal", "wal"), Sqlite("delete", "delete"), Postgres(), MariaDb()) if it.is_there]
 NEEDED = ("nbdkit", "nbdfuse", "nbdcopy", "mkfs.ext4", "e2fsck", "losetup", "unshare")
 
 
-def prepared(folder):
+def prepare(folder):
     """A file system with the databases, as a file."""
-    raw, mount = f"{folder}/prepared.raw", f"{folder}/prepared"
+    raw = f"{folder}/prepared.raw"
     with open(raw, "wb") as file:
         file.truncate(SIZE)
-    run(["mkfs.ext4", "-q", "-F", "-E", "nodiscard,lazy_itable_init=0,lazy_journal_init=0", raw])
-    os.makedirs(mount)
-    run(["mount", "-o", "loop", raw, mount])
-    try:
-        for database in DATABASES:
-            database.make(mount, f"{folder}/room")
-    finally:
-        unmount(mount)
+    make_file_system(folder, raw, DATABASES)
     return raw
 
 
-def copied(folder, image, raw, into):
+def copy_image(folder, image, raw, into):
     """Copies a file into an image, or an image into a file."""
     path = f"{folder}/copy"
     with subprocess.Popen([NBDJ, "serve", image, "--unix", path, "--sessions", "1"], env=ENVIRONMENT, stdin=subprocess.DEVNULL, stdout=subprocess.DEVNULL) as server:
-        awaited(path, server)
+        await_socket(path, server)
         uri = f"nbd+unix:///?socket={path}"
         run(["nbdcopy", "--connections=1", *(["--flush", raw, uri] if into else [uri, raw])], seconds=300)
         if server.wait(120):
@@ -70,12 +64,12 @@ class Nbdj:
 
     def made(self, folder, raw):
         image = f"{folder}/made.img"
-        run([NBDJ, "format", image, "--blocks", str(SIZE // 4096), "--area", str(16 << 20)])
-        copied(folder, image, raw, True)
+        format_image(image, "--blocks", str(SIZE // 4096), "--area", str(16 << 20))
+        copy_image(folder, image, raw, True)
         return image
 
     def opened(self, folder, image, raw):
-        copied(folder, image, raw, False)
+        copy_image(folder, image, raw, False)
 
 
 class Nbdkit:
@@ -94,7 +88,7 @@ class Nbdkit:
 
 
 def cut_once(folder, server, image, drawn):
-    """Loads the databases until a cut: what is wrong then, and of each database how many commits are gone, of how many, and the seconds."""
+    """Loads the databases until a cut: what is wrong then; for each database how many commits are lost, within how many seconds, and how many there were; the syncs."""
     disk = CutDisk(image)
     chain = Chain(f"{folder}/chain", disk, server.words, server.options)
     started, loads = [], []
@@ -114,13 +108,13 @@ def cut_once(folder, server, image, drawn):
     with open(f"{folder}/cut.img", "wb") as file:
         file.write(disk.synced)
     server.opened(folder, f"{folder}/cut.img", f"{folder}/cut.raw")
-    wrong, lasts = judged(folder, f"{folder}/cut.raw")
+    wrong, lasts = judge(folder, f"{folder}/cut.raw")
     lost = [(*commits.lost(last, moment), len(commits.moments)) for commits, last in zip(loads, lasts)]
     return wrong, lost, disk.syncs
 
 
-def judged(folder, raw):
-    """What is wrong in a file system after its own recovery, and the last row of each database."""
+def judge(folder, raw):
+    """What is wrong with a file system after its own recovery, and the last row of each database."""
     wrong, mount = [], f"{folder}/judged"
     run(["e2fsck", "-y", "-E", "journal_only", raw], check=False)
     status, text = run(["e2fsck", "-fn", raw], check=False)
@@ -140,12 +134,12 @@ def judged(folder, raw):
 
 
 def cuts_of(folder, server, raw, count, seed):
-    """So many cuts: how many left something wrong, and all that was lost."""
+    """Makes this many cuts: how many left something wrong, and what each lost."""
     with open(server.made(folder, raw), "rb") as file:
         image = file.read()
     corrupt, losses = 0, []
     for turn in range(count):
-        wrong, lost, syncs = cut_once(folder, server, image, drawn_from(seed, turn))
+        wrong, lost, syncs = cut_once(folder, server, image, random_from(seed, turn))
         corrupt += bool(wrong)
         losses += lost
         told = ", ".join(f"{database.name} {gone} of {of} commits, {seconds:.2f} s" for database, (gone, seconds, of) in zip(DATABASES, lost))
@@ -156,9 +150,9 @@ def cuts_of(folder, server, raw, count, seed):
 
 def main():
     words = argparse.ArgumentParser(usage=__doc__.split("\n")[2].removeprefix("usage: "))
-    words.add_argument("--cuts", type=int, default=3, help="of each server; by default 3")
+    words.add_argument("--cuts", type=int, default=3, help="cuts of each server; by default 3")
     words.add_argument("--seed", type=int, default=1)
-    words.add_argument("--only", choices=("ordered", "writeback", "nbdkit"), help="this server alone; by default all three")
+    words.add_argument("--only", choices=("ordered", "writeback", "nbdkit"), help="only this server; by default all three")
     words.add_argument("--keep", action="store_true", help="keeps the folder with the last images")
     asked = words.parse_args()
     missing = [it for it in NEEDED if not shutil.which(it, path=ENVIRONMENT["PATH"])]
@@ -170,7 +164,7 @@ def main():
     # (the user of PostgreSQL goes through it)
     os.chmod(folder, 0o755)
     try:
-        raw = prepared(folder)
+        raw = prepare(folder)
         if asked.only in (None, "ordered"):
             corrupt, losses = cuts_of(folder, Nbdj("ordered"), raw, asked.cuts, asked.seed)
             check("ordered: nothing is corrupt after a cut", 0, corrupt)
@@ -185,8 +179,7 @@ def main():
     finally:
         if not asked.keep:
             shutil.rmtree(folder, ignore_errors=True)
-    print(f"{hostile.passed} passed, {hostile.failed} failed")
-    return hostile.failed > 0
+    return checks.finish()
 
 
 if __name__ == "__main__":

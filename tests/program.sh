@@ -12,7 +12,7 @@ refused() {
     is "$name" '2||yes|no' "$status|$output|$(grep -qi 'usage\|--help' errors && echo yes)|$([ -e new.img ] && echo yes || echo no)"
 }
 
-# patch FILE OFFSET HEX: bytes in the middle of a file
+# patch FILE OFFSET HEX: writes bytes into a file
 patch() { bytes "$3" | dd of="$1" bs=1 seek="$2" conv=notrunc 2>/dev/null; }
 
 # unchanged NAME MESSAGE: recover, pipe and check refuse d.img with this message and leave it as it is
@@ -26,7 +26,7 @@ unchanged() {
     is "$1: the file after check" same "$(cmp -s d.img before.img && echo same)"
 }
 
-# checks NAME BLOCKS MODE BASE COMMANDS DATA ZERO HOLE: check prints these numbers, and leaves d.img as it is
+# checks NAME BLOCKS MODE BASE COMMANDS DATA ZERO HOLE: `check` prints these numbers, and leaves d.img as it is
 checks() {
     cp d.img before.img
     ends "$1" 0 "$(printf 'blocks %s\nmode %s\nbase %s\ncommands %s\ndata %s\nzero %s\nhole %s\n' "$2" "$3" "$4" "$5" "$6" "$7" "$8" | hex)" '' check d.img
@@ -59,7 +59,7 @@ done
 run format new.img --size 65G
 is 'the text of a size too large' "error: invalid value '65G' for '--size <SIZE>': 65G is not in 4096..=68719476736" "$(head -n 1 errors)"
 run format new.img --size 10X
-is 'the text of what is no size' "error: invalid value '10X' for '--size <SIZE>': a size is a number of bytes that fits 64 bits, or one with K, M, G or T behind it" "$(head -n 1 errors)"
+is 'the message for a wrong size' "error: invalid value '10X' for '--size <SIZE>': a size is a number of bytes that fits 64 bits, or one with K, M, G or T behind it" "$(head -n 1 errors)"
 run format new.img --size 64K --area 2088960
 is 'the text of an area too small' "error: invalid value '2088960' for '--area <BYTES>': 2088960 is not in 2097152..=1073741824" "$(head -n 1 errors)"
 refused 'frames too few' pipe new.img --frames 511
@@ -94,7 +94,7 @@ done
 refused 'a value of until-eof' serve new.img --listen 127.0.0.1:0 --until-eof=yes
 refused 'an empty path of a socket' serve new.img --unix ''
 run serve new.img
-is 'what is said where no address is' "2|error: one of --listen <ADDR> and --unix <SOCKET> is wanted" "$status|$(head -n 1 errors)"
+is 'the message without an address' "2|error: one of --listen <ADDR> and --unix <SOCKET> is wanted" "$status|$(head -n 1 errors)"
 refused 'sessions past 64 bits' serve new.img --listen 127.0.0.1:0 --sessions 18446744073709551616
 refused 'unknown cache mode of a server' serve new.img --listen 127.0.0.1:0 --cache unsafe
 refused 'too few bytes that may be lost' serve new.img --listen 127.0.0.1:0 --loss-bytes 2097151
@@ -108,14 +108,14 @@ refused 'a layout of letters' format new.img --size 64K --layout two
 refused 'a layout without a value' format new.img --size 64K --layout
 refused 'a layout given twice' format new.img --size 64K --layout 1 --layout 2
 refused 'a layout before its command' --layout 1 format new.img --size 64K
-refused 'a layout behind the words' format new.img --size 64K -- --layout 1
+refused 'a layout after the words' format new.img --size 64K -- --layout 1
 refused 'a part of an option' format new.img --size 64K --lay 1
 refused 'an unknown option' format new.img --size 64K --layuot 1
 refused 'blocks without a value' format new.img --size 64K --blocks
 run format new.img --size 64K --help
-is 'help beside a format makes no file' '0|no' "$status|$([ -e new.img ] && echo yes || echo no)"
+is 'help with a format makes no file' '0|no' "$status|$([ -e new.img ] && echo yes || echo no)"
 refused 'check without a path' check
-# The version is that of the first heading of the list of changes.
+# The version is that of the first heading of CHANGELOG.md.
 version=$(sed -n 's/^## \([0-9][0-9.]*\).*/\1/p' "$here/CHANGELOG.md" | head -n 1)
 run --version
 is 'version' "0|$(text "nbdj $version")|" "$status|$output|$errors"
@@ -126,12 +126,12 @@ for command in format serve pipe recover upgrade check rehearse; do
     is "version of $command" "0|$version|" "$status|$(sed 's/.* //' output)|$errors"
     run "$command" --help
     is "help of $command" '0|yes|' "$status|$(grep -q "^Usage: nbdj $command" output && echo yes)|$errors"
-    # each command has 0, 1 and 2, check has 3 too, and those that work on a file have 4
+    # (each command has 0, 1 and 2, check also 3, and those that use a file also 4)
     case $command in check) statuses='0 1 2 3 4 ' ;; rehearse) statuses='0 1 2 ' ;; *) statuses='0 1 2 4 ' ;; esac
     is "the exit statuses in the help of $command" "$statuses" "$(sed -n 's/^Exit status: //p' output | tr ';' '\n' | sed 's/^ *\([0-9]*\) [a-z].*/\1/' | tr '\n' ' ')"
 done
 
-# The example in each help runs; that of serve has no end, and listens, as that of the program does.
+# The example in each help runs. Those of serve and of the program go on after they listen.
 mkdir bin
 ln -s "$NBDJ" bin/nbdj
 request 0000 2 1 0 0 >requests
@@ -142,8 +142,8 @@ for command in format pipe recover upgrade check rehearse; do
     is "the example of $command" "0|nbdj $command" "$(PATH="$folder/bin:$PATH" sh -c "$example" >printed 2>&1; echo $?)|$(echo "$example" | cut -d ' ' -f 1-2)"
 done
 fresh 16 2097152
-# serves NAME STATUS PRINTED ERRORS WORD..: how a server ends, with the last line of its errors; one that goes on is stopped once it has
-# printed something, with status 143
+# serves NAME STATUS PRINTED ERRORS WORD..: how a server ends, with the last line of its errors; once it has printed something it is stopped,
+# with status 143
 serves() {
     name=$1
     wanted="$2|$3|$4"
@@ -152,16 +152,13 @@ serves() {
     : >errors
     timeout 20 "$NBDJ" serve "$@" >printed 2>errors </dev/null &
     serving=$!
-    tries=0
-    until [ -s printed ] || [ -s errors ] || [ "$tries" -eq 200 ]; do
-        sleep 0.05
-        tries=$((tries + 1))
-    done
+    wait_for 10 has_said
     [ -s errors ] || kill "$serving"
     wait "$serving" 2>/dev/null
     is "$name" "$wanted" "$?|$(cat printed)|$(tail -n 1 errors)"
     told
 }
+has_said() { [ -s printed ] || [ -s errors ]; }
 example=$("$NBDJ" serve --help | sed -n 's/^Example: nbdj serve //p')
 serves 'the example of serve' 143 "listening ${example##*:}" '' $example
 example=$("$NBDJ" --help | sed -n 's/^Example: //p')
@@ -197,7 +194,7 @@ printf 'no image' >d.img
 serves 'an image without a header' 1 '' "$("$NBDJ" recover d.img 2>&1)" d.img --listen 127.0.0.1
 rm -f d.img d.file requests replies script
 
-# What is neither a file nor a block device is refused at once, and stays.
+# A path that is neither a file nor a block device is refused at once, and stays.
 mkfifo d.fifo
 for path in d.fifo d.sock . /dev/null /dev/zero; do
     for command in recover check pipe 'serve --listen 127.0.0.1:0' 'format --size 64K --area 2M'; do
@@ -209,7 +206,7 @@ done
 is 'the fifo and the socket' yes "$([ -p d.fifo ] && [ -S d.sock ] && echo yes)"
 rm -f d.fifo d.sock
 
-# Reasons, which come in front of the text that is always there: of a server, and where -v asks for them.
+# A server prints the reason on a line before the refusal; other commands do so with -v.
 reason() {
     name=$1
     wanted=$(printf '%s\n%s' "$3" "$4")
@@ -235,10 +232,10 @@ reason 'a file that has grown' 1 'nbdj: d.img: 1,234,567 bytes longer than its h
 fresh 16 2097152
 reason 'an address of another machine' 1 'nbdj: 192.0.2.1:0: Cannot assign requested address (os error 99)' 'nbdj: stream fault (21)' serve d.img --listen 192.0.2.1:0
 reason 'a socket in a folder that is missing' 1 'nbdj: none/d.sock: No such file or directory (os error 2)' 'nbdj: stream fault (21)' serve d.img --unix none/d.sock
-reason 'a socket where a file is' 1 'nbdj: d.img: Address already in use (os error 98)' 'nbdj: stream fault (21)' serve d.img --unix d.img
+reason 'a file in place of the socket' 1 'nbdj: d.img: Address already in use (os error 98)' 'nbdj: stream fault (21)' serve d.img --unix d.img
 long=$(printf '%0120d' 0)
 reason 'a path of a socket that is too long' 1 "nbdj: $long: path must be shorter than SUN_LEN" 'nbdj: stream fault (21)' serve d.img --unix "$long"
-# (a terminal is told reasons too)
+# (also on a terminal)
 if command -v script >/dev/null; then
     is 'the reason of a missing file, on a terminal' 'nbdj: none.img: No such file or directory (os error 2)|nbdj: cannot open none.img' \
         "$(script -qec "$NBDJ recover none.img" /dev/null 2>&1 </dev/null | tr -d '\r' | paste -s -d '|')"
@@ -268,9 +265,8 @@ is 'header slot 0' 014e42444a524e4c310000000000000001000000000000001000200000000
 is 'length of the file' 4276224 "$(wc -c <d.img | tr -d ' ')"
 checks 'check of a fresh device' 16 0 0 0 0 0 16
 ends 'a fresh device' 0 "$(text 'commands 0')" '' recover d.img
-# Sizes: the device's bytes are 8,192, two areas, two map slots of 4,096 for each 16,384 blocks, and the blocks. The header has the
-# layout's number at the end of its magic, and the bytes of an area, which are half of what was asked for in layout 2. That is made of
-# --size, where no layout is asked for and an area has 4 MiB or more.
+# Sizes: a device has 8,192 bytes, two areas, two map slots of 4,096 for each 16,384 blocks, and the blocks. The header's magic ends with the
+# number of the layout; in layout 2 an area has half of the bytes asked for. --size makes layout 2 by default, if an area has 4 MiB or more.
 while read -r words layout blocks area bytes; do
     rm -f s.img
     ends "format --size $words" 0 "$(text "formatted $bytes")" '' format s.img --size $(echo "$words" | tr , ' ')
@@ -292,7 +288,7 @@ ROWS
 ends 'format --blocks with letters in the area' 0 "$(text 'formatted 4276224')" '' format s.img --blocks 16 --area 2M
 rm -f s.img
 
-# Layout 2: four areas of half the size, by a format and by an upgrade, which may be repeated.
+# Layout 2, made by a format and by an upgrade, which may be repeated.
 lines() { printf '%s\n' "$@" | hex; }
 ends 'format of layout 2' 0 "$(text 'formatted 8470528')" '' format e.img --blocks 16 --area 4M --layout 2
 is 'header of layout 2' 014e42444a524e4c3200000000000000010000000000000010002000000100000000000000000000 "$(part e.img 0 40)"
@@ -315,7 +311,7 @@ ends 'format of small areas' 1 '' 'nbdj: area too small (22)' format e.img --blo
 is 'the file of small areas' no "$([ -e e.img ] && echo yes || echo no)"
 ln -s made.img e.img
 ends 'format of small areas over a link' 1 '' 'nbdj: area too small (22)' format e.img --blocks 16 --area 2M --layout 2
-is 'the file behind the link' no "$([ -e made.img ] && echo yes || echo no)"
+is 'the target of the link' no "$([ -e made.img ] && echo yes || echo no)"
 rm -f e.img
 printf 'something else' >e.img
 ends 'format of small areas over a file' 1 '' 'nbdj: area too small (22)' format e.img --size 64K --area 2M --layout 2
@@ -327,9 +323,9 @@ refused 'layout 2 without a path' format --blocks 16 --area 2M --layout 2
 ends 'upgrade of small areas' 1 '' 'nbdj: area too small (22)' upgrade e.img
 rm -f e.img
 
-# An image of 1,024 blocks that nbdj wrote before it knew layout 2, with commands 5 to 8 in its second area. Block B of each write, of
-# blocks 0 to 255, 200 to 449, 400 to 655, 700 to 899 and 10 to 159, has bytes of its own; then 20 to 49 were trimmed, three blocks from
-# byte 100 of block 200 on became zeroes, and 10 digits were written from byte 904 of block 1 on.
+# An image of 1,024 blocks that was written before there was layout 2, with commands 5 to 8 in its second area. There were writes of blocks 0 to
+# 255, 200 to 449, 400 to 655, 700 to 899 and 10 to 159, each block with other bytes; then 20 to 49 were trimmed, three blocks from byte 100 of
+# block 200 on became zeroes, and 10 digits were written from byte 904 of block 1 on.
 for command in recover upgrade; do
     gzip -dc "$here/tests/images/before-layout-2.img.gz" >d.img
     checks "check of an old image, before $command" 1024 0 4 8 824 0 200
@@ -358,7 +354,7 @@ ROWS
 done
 rm -f d.img before.img
 
-# A file of which every block is there, and one of holes where the file system has any: blocks of 512 bytes hold it whole, or don't.
+# --preallocate allocates every block of the file; without it the file has holes, if the file system has any.
 held() { [ $(($(stat -c %b "$1") * 512)) -ge "$(stat -c %s "$1")" ] && echo whole || echo holes; }
 truncate -s 4276224 sparse
 ends 'format without --preallocate' 0 "$(text 'formatted 4276224')" '' format s.img --blocks 16 --area 2M
@@ -374,7 +370,7 @@ same 'the bytes of a longer file that was preallocated' s.img d.img
 is 'the blocks of a longer file that was preallocated' whole "$(held d.img)"
 rm -f s.img sparse
 
-# A format takes the place of what was there, whichever is longer.
+# A format replaces a longer file and a shorter one.
 ends 'format over a longer file' 0 "$(text 'formatted 4276224')" '' format d.img --blocks 16 --area 2097152
 differing 5000000 1 >d.img
 ends 'format over another longer file' 0 "$(text 'formatted 4276224')" '' format d.img --blocks 16 --area 2097152
@@ -383,14 +379,14 @@ tail -c 65536 d.img >found
 filled 65536 '\000' >wanted
 same 'the data of the file that was longer' wanted found
 
-# A file that another process works on: while a pipe serves it, nothing else opens it, and a format leaves every byte.
+# While a pipe serves a file, nothing else opens it, and a format leaves every byte.
 fresh 16 2097152
 mkfifo requests replies
 timeout 60 "$NBDJ" pipe d.img <requests >replies &
 serving=$!
 exec 3>requests 4<replies
 { request 0001 1 7 0 4096; filled 4096 G; } >&3
-is 'a reply of who holds the file' "$(reply 7 0)" "$(head -c 16 <&4 | hex)"
+is 'a reply of the pipe that has the file' "$(reply 7 0)" "$(head -c 16 <&4 | hex)"
 cp d.img before.img
 for command in 'pipe d.img' 'recover d.img' 'check d.img' 'format d.img --blocks 16 --area 2097152' 'format d.img --size 1G'; do
     ends "$command of a file in use" 4 '' 'nbdj: d.img is in use' $command
@@ -401,22 +397,22 @@ ends 'a link to a file in use' 4 '' 'nbdj: link.img is in use' check link.img
 { request 0001 1 8 4096 4096; filled 4096 H; request 0000 2 9 0 0; } >&3
 exec 3>&-
 wait $serving
-is 'the end of who held the file' 0 $?
+is 'the end of the pipe that had the file' 0 $?
 exec 4<&-
 rm -f requests replies link.img
 ends 'the file that was in use' 0 "$(text 'commands 2')" '' recover d.img
-# Two checks share a file, and keep who writes it off. A check that ended holds nothing.
+# Two checks share a file, and keep writers away while they run.
 if command -v flock >/dev/null; then
     flock -s d.img "$NBDJ" check d.img >shared 2>&1
-    is 'a check beside a check' '0|blocks 16' "$?|$(head -n 1 shared)"
+    is 'a check during a check' '0|blocks 16' "$?|$(head -n 1 shared)"
     flock -s d.img "$NBDJ" recover d.img >shared 2>&1
-    is 'a recovery beside a check' '4|nbdj: d.img is in use' "$?|$(cat shared)"
+    is 'a recovery during a check' '4|nbdj: d.img is in use' "$?|$(cat shared)"
     flock -x d.img "$NBDJ" check d.img >shared 2>&1
-    is 'a check beside a server' '4|nbdj: d.img is in use' "$?|$(cat shared)"
+    is 'a check during a server' '4|nbdj: d.img is in use' "$?|$(cat shared)"
 else
     skipped 'locks that are shared' 'there is no flock'
 fi
-# A check works on a file that may only be read.
+# `check` works on a file that is read-only.
 chmod 444 d.img
 ends 'check of a file that may only be read' 0 "$(printf 'blocks 16\nmode 0\nbase 2\ncommands 2\ndata 2\nzero 0\nhole 14\n' | hex)" '' check d.img
 chmod 644 d.img
@@ -461,7 +457,7 @@ for row in 'a body longer than the area|8193|00800000' 'a body longer than a gro
     patch d.img "$(printf '%s' "$row" | cut -d '|' -f 2)" "${row##*|}"
     unchanged "${row%%|*}" 'nbdj: damaged group (12)'
 done
-# grouped COMMAND COUNT: d.img has an image of 16 holes, and as its only group this command, in hex, with so many bytes of data behind it
+# grouped COMMAND COUNT: makes d.img, an image of 16 holes with one group, which has this command, in hex, with COUNT bytes of data after it
 grouped() {
     fresh 16 2097152
     patch d.img 8192 "01 $(printf %08x $((${#1} / 2 + $2))) 0000000000000001 00000001 $1"
@@ -471,17 +467,17 @@ grouped() {
 for row in 'no edges|04000000000000000000000002 00|0' 'edges 4|04000000000000000000000002 04|4096' \
     'a tail of one block|05000000000000000000000001 02|4096' 'a head and a tail of one block|05000000000000000000000001 03|8192' \
     'edges of no block|04000000000000000000000000 01|4096' 'a put of no block|01000000000000000000000000|0' \
-    'a clear to zero of no block|03000000000000000000000000|0' 'a trim of no block behind the end|02000000000000001100000000|0' \
+    'a clear to zero of no block|03000000000000000000000000|0' 'a trim of no block after the end|02000000000000001100000000|0' \
     'an edge of 2,048 bytes|04000000000000000000000002 01|2048' 'edges past the image|04000000000000000f00000002 01|4096' \
-    'a tail where the body ends|05000000000000000e00000002 03|4096'; do
+    'a tail after the end of the body|05000000000000000e00000002 03|4096'; do
     command=${row#*|}
     grouped "$(printf '%s' "${command%|*}" | tr -d ' ')" "${row##*|}"
     unchanged "${row%%|*}" 'nbdj: damaged group (12)'
 done
-# (a row ends in the blocks that are data afterwards, zero, and holes)
+# (a row ends with the numbers of data blocks, zero blocks and holes after it)
 for row in 'a trim of no block|02000000000000000f00000000|0|0 0 16' 'a trim of no block at the end|02000000000000001000000000|0|0 0 16' \
     'a clear to zero with a head and a tail|05000000000000000d00000003 03|8192|2 1 13' \
-    'a clear with two edges alone|05000000000000000e00000002 03|8192|2 0 14' 'a clear with a tail|04000000000000000e00000002 02|4096|1 0 15' \
+    'a clear of only two edges|05000000000000000e00000002 03|8192|2 0 14' 'a clear with a tail|04000000000000000e00000002 02|4096|1 0 15' \
     'a clear of one block that is its head|05000000000000000f00000001 01|4096|1 0 15'; do
     command=${row#*|}
     count=${command#*|}
@@ -490,14 +486,14 @@ for row in 'a trim of no block|02000000000000000f00000000|0|0 0 16' 'a trim of n
     checks "check of ${row%%|*}" 16 0 0 1 ${row##*|}
     ends "${row%%|*}" 0 "$(text 'commands 1')" '' recover d.img
     checks "check of ${row%%|*}, recovered" 16 0 1 1 ${row##*|}
-    # (the image's blocks are the end of the file)
-    is "the last block behind ${row%%|*}" "$(if [ "$count" -gt 0 ]; then tail -c 4096 data; else head -c 4096 /dev/zero; fi | hex)" "$(tail -c 4096 d.img | hex)"
+    # (the data region is the end of the file)
+    is "the last block after ${row%%|*}" "$(if [ "$count" -gt 0 ]; then tail -c 4096 data; else head -c 4096 /dev/zero; fi | hex)" "$(tail -c 4096 d.img | hex)"
 done
-# The head of three blocks stands in the first of them.
+# The head of a command is its first block.
 grouped 05000000000000000d0000000303 8192
 ends 'a clear whose head is recovered' 0 "$(text 'commands 1')" '' recover d.img
 is 'the block of the head' "$(head -c 4096 data | hex)" "$(tail -c 12288 d.img | head -c 4096 | hex)"
-# A put of the most blocks that a command may have, and of one more, inside the image.
+# A put of as many blocks as a command may have, and of one more, inside the image.
 fresh 300 2097152
 patch d.img 8192 '01 0010100d 0000000000000001 00000001 01 0000000000000000 00000101'
 checks 'check of a put of 257 blocks' 300 0 0 1 257 0 43
@@ -510,7 +506,7 @@ patch d.img 8192 '01 0000000d ffffffffffffffff 00000001 02 0000000000000000 0000
 checks 'check of the last number' 16 0 18446744073709551614 18446744073709551615 0 0 16
 patch d.img 8192 '01 0000001a ffffffffffffffff 00000002 02 0000000000000000 00000004 02 0000000000000000 00000004 00'
 unchanged 'a number past the last one' 'nbdj: damaged group (12)'
-# The second group of an area, and the second area in use. What an area that isn't in use holds counts for nothing.
+# The second group of an area, and a second area in use. The bytes of an area that isn't in use don't count.
 cp stored.img d.img
 patch d.img 8222 '01 0000000d 0000000000000002 00000001 03 0000000000000004 00000004 00'
 checks 'check of two groups' 16 0 0 2 0 4 12
@@ -518,12 +514,12 @@ patch d.img 8235 00000000
 unchanged 'a second group of no commands' 'nbdj: damaged group (12)'
 cp stored.img d.img
 patch d.img 2105344 '01 ffffffff ffffffffffffffff ffffffff'
-checks 'check beside an area that is not in use' 16 0 0 1 0 0 16
+checks 'check with an area that is not in use' 16 0 0 1 0 0 16
 patch d.img 29 01
 unchanged 'a damaged second area' 'nbdj: damaged group (12)'
 patch d.img 2105344 '01 0000000d 0000000000000002 00000001 03 0000000000000004 00000004 00'
 checks 'check of two areas' 16 1 0 2 0 4 12
-# Sizes: an area below the least one, in a file of the size that follows from it, and a file one byte shorter.
+# An area that is too small, in a file of the right length for it, and a file that is one byte too short.
 fresh 16 2097152
 patch d.img 25 001fe000
 head -c 4259840 d.img >shorter && mv shorter d.img
@@ -531,7 +527,7 @@ unchanged 'an area below the least' 'nbdj: bad header (8)'
 fresh 16 2097152
 head -c 4276223 d.img >shorter && mv shorter d.img
 unchanged 'one byte shorter' 'nbdj: bad header (8)'
-# What is told first: a bad header before a bad map, and a bad map before a damaged group.
+# The order of refusals: a bad header before a bad map, and a bad map before a damaged group.
 cp stored.img d.img
 patch d.img 8205 00000000
 patch d.img 4202496 03
@@ -539,14 +535,14 @@ unchanged 'a bad map over a damaged group' 'nbdj: bad map (6)'
 printf x >>d.img
 unchanged 'a bad header over a bad map' 'nbdj: bad header (8)'
 
-# Each field of a header and of a map with another value, as offset and bytes.
+# Wrong values in each field of a header and in a map, as offset and bytes.
 for row in 'another magic at its first byte|1|00' 'no blocks|24|00' 'a block more|24|11' 'an area of 2 GiB|25|80' \
     'an area that is no multiple|28|01' 'two areas too many in use|29|02' 'a third first area|30|02' 'a third map slot|31|02' 'blocks past all limits|17|01'; do
     fresh 16 2097152
     patch d.img "$(printf '%s' "$row" | cut -d '|' -f 2)" "${row##*|}"
     unchanged "${row%%|*}" 'nbdj: bad header (8)'
 done
-for row in 'a state behind the last block|4202500|01' 'a state at the end of a map slot|4206591|40'; do
+for row in 'a state after the last block|4202500|01' 'a state at the end of a map slot|4206591|40'; do
     fresh 16 2097152
     patch d.img "$(printf '%s' "$row" | cut -d '|' -f 2)" "${row##*|}"
     unchanged "${row%%|*}" 'nbdj: bad map (6)'
@@ -556,9 +552,8 @@ fresh 16 2097152
 patch d.img 29 01
 checks 'check of two empty areas' 16 1 0 0 0 0 16
 ends 'two empty areas' 0 "$(text 'commands 0')" '' recover d.img
-# Headers of layout 2, in slot 1 of a device that was upgraded: areas in use, the first area, the map slot, the bytes of an area, the magic,
-# the generation and the blocks; and the generation of the header of layout 1 beside it. Each row has what is found: the layout and the mode,
-# or nothing where the header is bad.
+# Headers of layout 2, in slot 1 of an upgraded device: areas in use, first area, map slot, bytes of an area, magic, generation and blocks; and the
+# generation of the header of layout 1 in slot 0. Each row ends with the layout and mode that are found, or nothing if the header is bad.
 "$NBDJ" format upgraded.img --blocks 16 --area 4194304 >/dev/null
 "$NBDJ" upgrade upgraded.img >/dev/null
 while IFS='|' read -r offset put layout mode; do
@@ -590,9 +585,9 @@ done <<'ROWS'
 4117|00000011||
 4117|00000000||
 ROWS
-# Three areas in use, each with one group: what is changed in one of them, and how many commands there are then, or nothing where a group is
-# damaged. In turn: nothing, the number of the third group, the gate of the second and of the third, an area that isn't in use, and a length
-# that fits an area of layout 1.
+# Three areas in use, each with one group: a change in one of them, and how many commands are found, or nothing if a group is damaged. The changes
+# are none, the number of the third group, the gates of the second and the third, an area that isn't in use, and a length that only fits an area
+# of layout 1.
 patch upgraded.img 4125 03
 patch upgraded.img 8192 '01 0000000d 0000000000000001 00000001 03 0000000000000000 00000001 00'
 patch upgraded.img 2105344 '01 0000000d 0000000000000002 00000001 03 0000000000000001 00000001 00'
@@ -616,7 +611,7 @@ done <<'ROWS'
 ROWS
 rm -f upgraded.img
 
-# Streams that end early: nothing is written and nothing accepted.
+# Streams that end early: nothing is answered and nothing accepted.
 fresh 16 2097152
 { request 0000 1 1 0 4096; filled 4096 A; } >whole
 for count in 0 1 27 28 128 4123; do
@@ -626,7 +621,7 @@ done
 : >input
 ends 'after the short streams' 0 "$(text 'commands 0')" '' recover d.img
 
-# Judgement: each request with the error of its reply.
+# Validation: each request with the error of its reply.
 {
     request 0000 1 1 61440 4096; filled 4096 A
     request 0000 1 2 61440 8192; filled 8192 A
@@ -651,7 +646,7 @@ ends 'judgement' 0 "$replies" '' pipe d.img
 : >input
 ends 'after the judgement' 0 "$(text 'commands 1')" '' recover d.img
 
-# Streams that close.
+# Requests that end the session.
 { request 0000 1 1 0 4096; filled 4096 A; bytes 25609514; filled 24 '\000'; } >input
 ends 'a wrong magic' 1 "$(reply 1 0)" 'nbdj: protocol end (20)' pipe d.img
 request 0000 1 1 0 33554433 >input
@@ -659,7 +654,7 @@ ends 'a WRITE that is too long' 1 '' 'nbdj: protocol end (20)' pipe d.img
 : >input
 ends 'after the closed streams' 0 "$(text 'commands 2')" '' recover d.img
 
-# One group of 41 commands, the next gate behind it.
+# One group of 41 commands, and the next gate after it.
 fresh 64 2097152
 {
     number=1
@@ -675,13 +670,12 @@ fresh 64 2097152
 run pipe d.img
 is '41 commands' "0|656|" "$status|$((${#output} / 2))|$errors"
 is 'the head of their group' 010002921500000000000000010000002901000000000000000100000001 "$(part d.img 8192 30)"
-is 'the gate behind it' 00 "$(part d.img $((8192 + 168486)) 1)"
+is 'the gate after it' 00 "$(part d.img $((8192 + 168486)) 1)"
 : >input
 checks 'check of the group' 64 0 0 41 41 0 23
 ends 'commands of the group' 0 "$(text 'commands 41')" '' recover d.img
 checks 'check of the group in the image' 64 0 41 41 41 0 23
-# Recovered by a checkpoint: two headers later the second area is alone in use, map slot 1 holds the states, and the blocks
-# stand in the data region.
+# A recovery by a checkpoint: two headers later only the second area is in use, map slot 1 has the states, and the blocks are in the data region.
 is 'the header after the recovery' 014e42444a524e4c3100000000000000030000000000000040002000000001010000000000000029 "$(part d.img 0 40)"
 is 'the map after the recovery' aaaaaaaaaaaaaaaaaaaa0200000000000000 "$(part d.img $((8192 + 2 * 2097152 + 4096)) 18)"
 data=$((8192 + 2 * 2097152 + 2 * 4096))
@@ -690,14 +684,14 @@ tail -c "+$((data + 1))" d.img >found
 same 'the blocks after the recovery' wanted found
 ends 'a recovered device again' 0 "$(text 'commands 41')" '' recover d.img
 
-# The groups of requests of bytes, from their first gate to the next. A block that is covered in part goes into the group with its old
-# bytes, but for one that isn't data where bytes are made zero, and for those of a trim.
-# stands NAME PLACE: d.img holds the bytes of `wanted` from this place on
+# The groups of requests of bytes, from their first gate to the next. A block that is covered in part goes into the group with its old bytes,
+# except if it isn't data and bytes become zero, and except for a trim.
+# stands NAME PLACE: d.img has the bytes of `wanted` from this place on
 stands() {
     tail -c "+$(($2 + 1))" d.img | head -c "$(wc -c <wanted)" >found
     same "$1" wanted found
 }
-# slice FILE FROM COUNT: bytes of a file
+# slice FILE FROM COUNT: a part of a file
 slice() { tail -c "+$(($2 + 1))" "$1" | head -c "$3"; }
 differing 12288 7 >data
 
@@ -728,7 +722,7 @@ stands 'the group of zeroes that end in data' 8192
 
 fresh 16 2097152
 { request 0000 1 1 20480 4096; slice data 4096 4096; request 0002 6 2 20500 100; request 0000 2 3 0 0; } >input
-ends 'zeroes amid a block' 0 "$(reply 1 0)$(reply 2 0)" '' pipe d.img
+ends 'zeroes inside a block' 0 "$(reply 1 0)$(reply 2 0)" '' pipe d.img
 {
     bytes '01 0000201b 0000000000000001 00000002 01 0000000000000005 00000001'
     slice data 4096 4096
@@ -738,9 +732,9 @@ ends 'zeroes amid a block' 0 "$(reply 1 0)$(reply 2 0)" '' pipe d.img
     slice data 4216 3976
     bytes 00
 } >wanted
-stands 'the group of zeroes amid a block' 8192
+stands 'the group of zeroes inside a block' 8192
 
-# The old bytes that a session finds on the device go into the group; the recovery before it has turned to the second area.
+# Old bytes from the device go into the group, which stands in the second area after the recovery.
 fresh 16 2097152
 { request 0000 1 1 0 4096; slice data 8192 4096; request 0000 2 2 0 0; } >input
 ends 'a block for the next session' 0 "$(reply 1 0)" '' pipe d.img
@@ -755,7 +749,7 @@ ends 'a write into a block of the session before' 0 "$(reply 1 0)" '' pipe d.img
 } >wanted
 stands 'the group of a write into a block of the session before' 2105344
 
-# Zeroes between two blocks that stay data, and what a checkpoint makes of them: both are copied, and the block between is a hole.
+# Zeroes between two blocks that stay data; a checkpoint copies both, and the block between them is a hole.
 fresh 16 2097152
 { request 0000 1 1 0 12288; cat data; request 0000 6 2 100 8192; request 0000 2 3 0 0; } >input
 ends 'zeroes between data' 0 "$(reply 1 0)$(reply 2 0)" '' pipe d.img
@@ -776,8 +770,8 @@ ends 'zeroes between data, recovered' 0 "$(text 'commands 2')" '' recover d.img
 stands 'the blocks of zeroes between data' $((8192 + 2 * 2097152 + 2 * 4096))
 is 'the map of zeroes between data' 22000000 "$(part d.img $((8192 + 2 * 2097152 + 4096)) 4)"
 
-# READs of what was written, of a hole with FUA, past the end, with DF, a BLOCK_STATUS, READs up to 2^64, too long and of nothing; then
-# of what an opening found.
+# READs of written bytes, of a hole with FUA, past the end, with DF, a BLOCK_STATUS, READs up to 2^64, too long and of no byte; then READs after
+# an opening.
 fresh 16 2097152
 differing 8192 5 >data
 {
@@ -800,8 +794,8 @@ ends 'reads' 0 "$(reply 1 0)$(reply 2 0)$(part data 4096 4096)$(reply 3 0)$(fill
 ends 'reads of an opened device' 0 "$(reply 1 0)$(hex <data)" '' pipe d.img
 : >input
 
-# Of four blocks that were written the second becomes a hole by TRIM, the third allocated zero by WRITE_ZEROES with NO_HOLE, and the
-# fourth a hole by WRITE_ZEROES.
+# Four blocks are written; the second becomes a hole by TRIM, the third allocated zero by WRITE_ZEROES with NO_HOLE, and the fourth a hole by
+# WRITE_ZEROES.
 fresh 16 2097152
 {
     request 0000 1 1 0 16384; filled 16384 D
@@ -822,9 +816,8 @@ data=$((8192 + 2 * 2097152 + 2 * 4096))
 tail -c "+$((data + 1))" d.img >found
 same 'the blocks after the clears' wanted found
 
-# Requests of any bytes, in one stream and again over the opened device. A write of bytes 4,000 to 4,199 is a put of blocks 0 and 1. Zeroes
-# over bytes 100 to 8,291 of three data blocks clear the block between, and leave both edges data. Of the trims the first covers no whole
-# block, and has a number all the same.
+# Requests of any bytes, in one stream, and READs after an opening. A write of bytes 4,000 to 4,199 is a put of blocks 0 and 1. Zeroes over bytes
+# 100 to 8,291 of three data blocks clear the block between, and leave both edges data. The first trim covers no whole block, and has a number too.
 fresh 16 2097152
 differing 12288 3 >data
 { head -c 4000 /dev/zero; filled 200 A; head -c 3992 /dev/zero; head -c 100 data; head -c 8192 /dev/zero; tail -c 3996 data; } >wanted
@@ -869,7 +862,7 @@ ends 'reads of any bytes of an opened device' 0 "$(answers)" '' pipe d.img
 rm -f data wanted
 : >input
 
-# A journal that fills is emptied: the first write is copied into the image, and the second one stored.
+# A full journal is emptied: the first write is copied into the image, and the second one stored.
 fresh 256 2097152
 {
     request 0001 1 1 0 1048576; filled 1048576 D
@@ -886,7 +879,7 @@ data=$((8192 + 2 * 2097152 + 2 * 4096))
 tail -c "+$((data + 1))" d.img >found
 same 'the blocks after the full journal' wanted found
 
-# No frames left: what is stored is copied into the image, and its frames are free.
+# If no frame is left, what is stored is copied into the image, and its frames are free again.
 fresh 1024 4194304
 {
     request 0000 1 1 0 1048576; filled 1048576 F
@@ -904,7 +897,7 @@ data=$((8192 + 2 * 4194304 + 2 * 4096))
 tail -c "+$((data + 1))" d.img >found
 same 'the blocks after no frames left' wanted found
 
-# A journal that fills where no generation is left for another header: the write that was answered is found.
+# A full journal when no generation is left for another header: the answered write is found.
 fresh 256 2097152
 patch d.img 9 ffffffffffffffff
 {
@@ -916,7 +909,7 @@ ends 'no generation left' 1 "$(reply 1 0)" 'nbdj: numbers full (9)' pipe d.img
 checks 'check after no generation left' 256 0 0 1 256 0 0
 ends 'after no generation left' 1 '' 'nbdj: numbers full (9)' recover d.img
 
-# A reply comes before the next request is waited for.
+# A reply is written before the program waits for the next request.
 fresh 16 2097152
 mkfifo requests replies
 timeout 20 "$NBDJ" pipe d.img --cache writethrough <requests >replies &
@@ -930,7 +923,7 @@ wait $!
 is 'the end of the conversation' 0 $?
 exec 4<&-
 
-# In ordered a FLUSH makes nothing durable, and neither does FUA: both are answered though nothing is stored. At the end all is.
+# In ordered a FLUSH makes nothing durable, and neither does FUA: both are answered at once, and everything is stored at the end.
 fresh 16 2097152
 timeout 20 "$NBDJ" pipe d.img --cache ordered <requests >replies &
 exec 3>requests 4<replies
@@ -957,8 +950,8 @@ else
     skipped 'a stream that cannot be written' 'there is no /dev/full'
 fi
 
-# The largest image with the largest areas, where the file system takes a file of 66 GiB with holes: it is formatted and opened in
-# memory that goes with its map, of 4 MiB, and not with its data or its journal.
+# The largest image with the largest areas, if the file system allows a file of 66 GiB with holes: it is formatted and opened in little memory, for
+# its map of 4 MiB and not for its data or its journal.
 if dd if=/dev/null of=large.img bs=1 seek=70875357184 2>/dev/null; then
     rm -f large.img
     is 'the largest image' 'formatted 70875357184' "$(ulimit -v 65536 && "$NBDJ" format large.img --blocks 16777216 --area 1073741824 2>&1)"
@@ -966,17 +959,17 @@ if dd if=/dev/null of=large.img bs=1 seek=70875357184 2>/dev/null; then
     is 'the largest image again' 'commands 0' "$(ulimit -v 65536 && "$NBDJ" recover large.img 2>&1)"
     rm -f large.img
 else
-    skipped 'the largest image' 'the file system takes no file of 66 GiB with holes'
+    skipped 'the largest image' 'the file system allows no file of 66 GiB with holes'
 fi
 
-# The scripts that docs/FORMATS.md teaches, and what it says that they print.
+# The scripts of docs/FORMATS.md print what it says.
 block() { awk -v kind="$1" -v k="$2" '$0 == "```" kind { n++; on = n == k; next } /^```/ { on = 0 } on' "$here/docs/FORMATS.md"; }
 for k in 1 2 3; do
     block script "$k" >input
     ends "script $k of the page" 0 "$(block prints "$k" | hex)" '' rehearse
 done
 
-# The table of scripts, and what each prints.
+# The scripts of tests/scripts print what stands there.
 scripts=0
 for script in "$here"/tests/scripts/*.in; do
     cp "$script" input || continue
@@ -985,8 +978,8 @@ for script in "$here"/tests/scripts/*.in; do
 done
 is 'there are scripts' yes "$([ "$scripts" -gt 0 ] && echo yes)"
 
-# A READ of more blocks than there are frames leaves the last ones in memory: of 1,024 blocks that an opening has found, 513 are read one by
-# one over 512 frames. Then the device fails in the next read: blocks 1 and 512 are read from memory, and block 0 isn't.
+# READs of more blocks than there are frames leave the last ones in memory: 513 of 1,024 blocks are read over 512 frames. Then the next device
+# read fails: blocks 1 and 512 are read from memory, and block 0 isn't.
 {
     echo 'format 1024 8388608 512'
     for first in 0 256 512 768; do
@@ -999,8 +992,8 @@ is 'there are scripts' yes "$([ "$scripts" -gt 0 ] && echo yes)"
 } >input
 run rehearse
 is 'reads of more blocks than frames' '0||513 answer 1 bytes 41' "$status|$errors|$("$NBDJ" rehearse <input | sed -n '/^run/,/^armed/p' | grep -c 'answer 1 bytes 41') answer 1 bytes 41"
-is 'what is in memory then' "$(printf '%s\n' armed 'answer 1 bytes 41' 'answer 1 bytes 41' 'answer 1 error 5')" "$("$NBDJ" rehearse <input | sed -n '/^armed/,$p' | grep -v done)"
-# Three runs of blocks that aren't in memory are three reads of the device, and none once they were read.
+is 'the blocks in memory then' "$(printf '%s\n' armed 'answer 1 bytes 41' 'answer 1 bytes 41' 'answer 1 error 5')" "$("$NBDJ" rehearse <input | sed -n '/^armed/,$p' | grep -v done)"
+# Three runs of blocks that aren't in memory are three device reads; later READs of them need none.
 {
     printf '%s\n' 'format 1024 8388608 512' 'send 1 put 0 256 41' 'serve 1' 'answer 1' seal append publish 'crash new'
     for range in '1 1' '3 2'; do printf '%s\n' "send 1 read $range" 'serve 1' 'answer 1'; done
@@ -1011,8 +1004,8 @@ is 'a read of three runs' "$(printf '%s\n' armed 'answer 1 bytes 41 41 41 41 41 
     "$("$NBDJ" rehearse <input | sed -n '/^armed/,$p' | grep -v done)"
 : >input
 
-# Layout 2 in scripts: areas that would be too small, and how many commands fit a group, whose body has at most the bytes of an area
-# less 18, and 8,388,608: of 7 puts of 1 MiB, one of a block less, and 308 clears of 13 bytes.
+# Layout 2 in scripts: areas that would be too small, and how many commands fit into a group. Its body has at most the bytes of an area less 18, and
+# at most 8,388,608: 7 puts of 1 MiB, one of a block less, and 308 clears of 13 bytes.
 printf '%s\n' 'format 16 4186112 512 layout2' 'crash ff' >input
 ends 'a script with small areas' 1 "$(text 'failed 22')" '' rehearse
 printf '%s\n' 'format 16 2097152 512' 'send 1 put 0 1 41' 'serve 1' 'answer 1' seal append publish upgrade 'crash ff' >input
@@ -1036,7 +1029,7 @@ done <<'ROWS'
 8M layout2 313
 ROWS
 
-# Lines that are no step, as the second of a script, and first lines that are no format.
+# Second lines of a script that are no step, and first lines that are no format.
 while IFS= read -r line; do
     printf 'format 16 2097152 512\n%s\nseal\n' "$line" >input
     ends "no step: '$line'" 2 "$(text 'done')" 'nbdj: line 2: not a step' rehearse
@@ -1048,7 +1041,7 @@ done <"$here/tests/scripts/no_formats"
 : >input
 ends 'an empty script' 2 '' 'nbdj: line 1: not a step' rehearse
 
-# What a line prints comes before the next line is waited for.
+# The output of a line is written before the program waits for the next line.
 mkfifo lines told
 timeout 20 "$NBDJ" rehearse <lines >told &
 exec 3>lines 4<told
@@ -1059,7 +1052,7 @@ wait $!
 is 'the end of the script' 0 $?
 exec 4<&-
 
-# Installed into a folder, also by a relative path with a space, and as a package; and what the unit for systemd runs, with a socket.
+# Installation into a folder, also by a relative path with a space, and as a package; and what the systemd unit runs, with a socket.
 "$here/tools/install" --prefix 'in stalled'
 is 'the installed program' "nbdj $version" "$('in stalled/bin/nbdj' --version)"
 is 'the installed completion' yes "$([ -s 'in stalled/share/bash-completion/completions/nbdj' ] && echo yes)"

@@ -1,8 +1,8 @@
 #!/bin/sh
-# Checks of dist/: that it is of these sources, that the archive has the tree's files and can be made again byte for byte, and that a changed
-# byte of a source, of the archive or of PROVENANCE is noticed before the program runs. The last line is 'N passed, M failed'.
+# Checks of dist/: that it was made from these sources, that the archive has the tree's files and can be made again byte for byte, and that a
+# changed byte of a source, of the archive or of PROVENANCE is noticed before the program runs. The last line is 'N passed, M failed'.
 #
-# usage: tests/release.sh [--program PROGRAM]          (with a program: only whether dist/ has the very same one)
+# usage: tests/release.sh [--program PROGRAM]          (with a program: only checks that dist/ has the same one)
 set -u
 here=$(CDPATH='' cd "$(dirname "$0")/.." && pwd)
 . "$here/tests/checks.sh"
@@ -22,7 +22,7 @@ if [ "${1:-}" = --program ]; then
     exit
 fi
 
-# A copy of what the demo and its tools read, in which a build only says that it was called.
+# A copy of what the demo and its tools read, where a build only says that it was called.
 mkdir copy
 (cd "$here" && tar -cf - --exclude=out crates.txt crates dist tools demo examples docs/nbdj.1 packaging CHANGELOG.md LICENSE) | tar -C copy -xf -
 top=$here
@@ -31,7 +31,7 @@ printf '#!/bin/sh\necho "a build began"\nexit 1\n' >copy/tools/build-program
 chmod +x copy/tools/build-program
 unset NBDJ
 
-# got: what tools/get-program of the copy answers: its status, what it prints, and what it tells
+# got: the status, output and errors of tools/get-program in the copy
 got() {
     copy/tools/get-program >output 2>errors
     echo "$?|$(cat output)|$(cat errors)"
@@ -46,7 +46,7 @@ is 'the program of dist' "$whole" "$(got)"
 is 'the version of the program' "nbdj $version" "$("$program_path" --version)"
 is 'the digest of the program' "$program" "$(digest "$program_path")"
 
-# The archive: the tree's files and that program, and nothing else. (Another release of xz may write other bytes for the same ones.)
+# The archive has the tree's files and that program, and nothing else. (Another release of xz may compress to other bytes.)
 mkdir first second
 made=$(basename "$("$top/tools/make-archive" "$program_path" first)")
 "$top/tools/make-archive" "$program_path" second >/dev/null
@@ -56,7 +56,7 @@ xz -dc "$top/dist/$(archive_name)" >dist.tar
 same "the archive of dist, and one of the tree's files" first.tar dist.tar
 is 'what dist has' "PROVENANCE $(archive_name)" "$(cd "$top/dist" && echo *)"
 
-# The demo: from a fresh clone to its end in at most five seconds, with the tools of a bare system alone, and with nothing built.
+# The demo runs in a fresh clone within five seconds, with the tools of a bare system and without a build.
 rm -rf copy/out bare
 mkdir bare
 for tool in sh tar xz cat cut dirname head tail mktemp mv od rm mkdir sha256sum sleep sort tr; do
@@ -74,7 +74,7 @@ changed() {
     byte=$(part "saved" "$2" 1)
     bytes "$(printf %02x $((0x$byte ^ 1)))" | dd of="copy/$1" bs=1 seek="$2" conv=notrunc 2>/dev/null
 }
-# noticed NAME WHY: the copy's program isn't taken, and why is told
+# noticed NAME WHY: the copy's program isn't used, and this is why
 noticed() {
     is "$1" "1||$2: building the program
 a build began" "$(got)"
@@ -122,14 +122,14 @@ restored dist/PROVENANCE
 is 'a build that is asked for' "1||a build was asked for: building the program
 a build began" "$(copy/tools/get-program --build >output 2>errors; echo "$?|$(cat output)|$(cat errors)")"
 
-# What was unpacked and changed since is unpacked again.
+# A changed program in out/ is unpacked again.
 got >/dev/null
 changed "out/nbdj-$version/bin/nbdj" 5000
 is 'a changed program in out' "$whole" "$(got)"
 is 'the digest of the program in out' "$program" "$(digest "$program_path")"
 is 'the whole copy' "$whole" "$(got)"
 
-# A release is made of a program that was proved from these very sources.
+# A release needs a program that was proved from exactly these sources.
 mkdir -p copy/crates/nbdj/out
 cp "$program_path" copy/crates/nbdj/out/nbdj
 refusal="tools/release: $folder/copy/crates/nbdj/out/nbdj isn't noted as proved from these sources; tools/build-program or ./prove makes one that is"

@@ -1,26 +1,22 @@
 #!/usr/bin/env python3
 """Requests of any bytes, and the ways to begin a session, over sockets of `serve` of the built program NBDJ: bytes in, bytes out.
 
-Each stream is sent in one piece and, where it is shorter than 400 bytes, in two that are parted at each place. What it has to be answered
-was computed by hand. Prints a line for each check that fails, and last 'N passed, M failed'.
+Each stream is sent in one piece and, if it is shorter than 400 bytes, in two pieces, split at each place. The expected answers were
+computed by hand. Prints a line for each check that fails, and last 'N passed, M failed'.
 """
 import contextlib
-import os
 import socket
-import subprocess
+import struct
 import sys
-import tempfile
 
-import hostile
-from hostile import BLOCK, DISC, FLUSH, MIB, NBDJ, READ, STATUS, TRIM, WRITE, ZEROES, check, request, take
+import checks
+from checks import (
+    BLOCK, DF, DISC, FLUSH, FUA, LONG_HANDSHAKE, MIB, NO_HOLE, READ, REQ_ONE, STATUS, TRIM, WRITE, ZEROES, check, connect, reply, request,
+    serve_new, shake,
+)
 
-FUA, NO_HOLE, DF, REQ_ONE = 1, 2, 4, 8
-MOST_PARTED = 400
+MOST_SPLIT = 400
 GREETING = bytes.fromhex("4e42444d41474943 49484156454f5054 0003")
-
-
-def simple(cookie, error=0):
-    return hostile.struct.pack(">IIQ", 0x67446698, error, cookie)
 
 
 def of(*parts):
@@ -28,43 +24,15 @@ def of(*parts):
     return b"".join(bytes.fromhex(part) if isinstance(part, str) else part for part in parts)
 
 
-@contextlib.contextmanager
-def served(folder, name, blocks, *words):
-    """The path of the socket of a server of a new image."""
-    image, path = os.path.join(folder, f"{name}.img"), os.path.join(folder, f"{name}.sock")
-    subprocess.run([NBDJ, "format", image, "--blocks", str(blocks), "--area", "2097152"], check=True, stdout=subprocess.DEVNULL, timeout=60)
-    with subprocess.Popen([NBDJ, "serve", image, "--unix", path, *words], stdin=subprocess.DEVNULL, stdout=subprocess.PIPE, text=True) as server:
-        try:
-            check(f"{name}: it listens", f"listening {path}\n", server.stdout.readline())
-            yield path
-            check(f"{name}: it lives", None, server.poll())
-        finally:
-            server.kill()
-    os.unlink(image)
-
-
-def connected(path):
-    client = socket.socket(socket.AF_UNIX)
-    client.settimeout(20)
-    client.connect(path)
-    return client
-
-
-def shaken(path):
+def connect_structured(path):
     """A client that has structured replies and the context."""
-    client = connected(path)
-    client.sendall(hostile.LONG_HANDSHAKE)
-    take(client, 18)
-    answered = (0, 0)
-    while answered != (hostile.GO, 1):
-        _, asked, kind, length = hostile.struct.unpack(">QIII", take(client, 20))
-        take(client, length)
-        answered = asked, kind
+    client = connect(path)
+    shake(client, LONG_HANDSHAKE)
     return client
 
 
-def taken(client, count):
-    """So many bytes; fewer where the server closes, also with input that it hasn't read."""
+def take_until_reset(client, count):
+    """This many bytes; fewer if the server closes, also by a reset because of input that it hasn't read."""
     found = b""
     with contextlib.suppress(ConnectionResetError):
         while len(found) < count and (piece := client.recv(count - len(found))):
@@ -73,26 +41,26 @@ def taken(client, count):
 
 
 def answers(begin, path, pieces, count):
-    """What the pieces are answered, up to one byte more than so many; the client ends its side behind them."""
+    """What the pieces are answered, up to one byte more than `count`; the client ends its side after them."""
     with begin(path) as client:
         for piece in pieces:
-            # (the server may close in the midst of it)
+            # (the server may close before it has read all)
             with contextlib.suppress(OSError):
                 client.sendall(piece)
         with contextlib.suppress(OSError):
             client.shutdown(socket.SHUT_WR)
-        return taken(client, count + 1)
+        return take_until_reset(client, count + 1)
 
 
-def hold(name, begin, path, sent, wanted):
-    """A stream in one piece, and parted at each place."""
+def check_stream(name, begin, path, sent, wanted):
+    """Checks the answers to a stream that is sent in one piece, and in two, split at each place."""
     check(name, wanted.hex(" ", 4), answers(begin, path, [sent], len(wanted)).hex(" ", 4))
-    if len(sent) < MOST_PARTED:
+    if len(sent) < MOST_SPLIT:
         wrong = [place for place in range(1, len(sent)) if answers(begin, path, [sent[:place], sent[place:]], len(wanted)) != wanted]
-        check(f"{name}: parted, where other bytes are written", [], wrong[:9])
+        check(f"{name}: split, where the answers differ", [], wrong[:9])
 
 
-# A WRITE of block 0 in an image of 16 blocks, all bytes 'A', stands before each of these. Each leaves an image that answers it alike again.
+# Before each of these comes a WRITE of block 0, all bytes 'A', in an image of 16 blocks. Each can be sent again with the same answers.
 FIRST = request(WRITE, 1, 0, BLOCK) + b"A" * BLOCK
 
 REQUESTS = [
@@ -109,28 +77,28 @@ REQUESTS = [
      of("668e33ef 0001 0002 000000000000000f 0000000c 000000000000ffff 00000001")),
     ("a read of one byte more", request(READ, 16, 65535, 2),
      of("668e33ef 0001 8001 0000000000000010 00000006 00000016 0000")),
-    ("a write of one byte more", request(WRITE, 17, 65535, 2) + b"xy", simple(17, 28)),
-    ("zeroes of a block, and states from a byte before to a byte behind", request(ZEROES, 18, BLOCK, BLOCK, NO_HOLE) + request(STATUS, 19, 4095, 4098),
-     of(simple(18), "668e33ef 0001 0005 0000000000000013 0000001c 00000001 00000001 00000000 00001000 00000002 00000001 00000003")),
+    ("a write of one byte more", request(WRITE, 17, 65535, 2) + b"xy", reply(17, 28)),
+    ("zeroes of a block, and states from a byte before to a byte after", request(ZEROES, 18, BLOCK, BLOCK, NO_HOLE) + request(STATUS, 19, 4095, 4098),
+     of(reply(18), "668e33ef 0001 0005 0000000000000013 0000001c 00000001 00000001 00000000 00001000 00000002 00000001 00000003")),
     ("the state of a range inside a block", request(STATUS, 20, 4097, 10),
      of("668e33ef 0001 0005 0000000000000014 0000000c 00000001 0000000a 00000003")),
     ("a write with FUA over two holes, and a read around it", request(WRITE, 21, 8191, 3, FUA) + b"abc" + request(READ, 22, 8190, 6),
-     of(simple(21), "668e33ef 0001 0001 0000000000000016 0000000e 0000000000001ffe 006162630000")),
+     of(reply(21), "668e33ef 0001 0001 0000000000000016 0000000e 0000000000001ffe 006162630000")),
     ("zeroes over the end of data, its states and its bytes",
      request(ZEROES, 23, 3840, 512) + request(STATUS, 24, 0, 12288) + request(READ, 25, 3839, 2),
-     of(simple(23), "668e33ef 0001 0005 0000000000000018 00000014 00000001 00001000 00000000 00002000 00000003",
+     of(reply(23), "668e33ef 0001 0005 0000000000000018 00000014 00000001 00001000 00000000 00002000 00000003",
         "668e33ef 0001 0001 0000000000000019 0000000a 0000000000000eff 4100")),
     ("a trim inside blocks", request(TRIM, 26, 1, 8190) + request(READ, 27, 4095, 1),
-     of(simple(26), "668e33ef 0001 0001 000000000000001b 00000009 0000000000000fff 41")),
+     of(reply(26), "668e33ef 0001 0001 000000000000001b 00000009 0000000000000fff 41")),
     ("a trim of a block and a byte, and the block written again", request(TRIM, 28, 0, 4097) + request(READ, 29, 4095, 2) + FIRST,
-     of(simple(28), "668e33ef 0001 0002 000000000000001d 0000000c 0000000000000fff 00000002", simple(1))),
+     of(reply(28), "668e33ef 0001 0002 000000000000001d 0000000c 0000000000000fff 00000002", reply(1))),
     ("a read of a hole", request(READ, 31, 8192, BLOCK), of("668e33ef 0001 0002 000000000000001f 0000000c 0000000000002000 00001000")),
-    ("a flush of a block", request(FLUSH, 32, BLOCK, 0) + request(FLUSH, 33, 0, BLOCK), of(simple(32, 22), simple(33, 22))),
+    ("a flush of a block", request(FLUSH, 32, BLOCK, 0) + request(FLUSH, 33, 0, BLOCK), of(reply(32, 22), reply(33, 22))),
 ]
 
 NOTHING = [
     (f"{what} of no byte at {place}", request(kind, 30, place, 0),
-     of("668e33ef 0001 8001 000000000000001e 00000006 00000016 0000") if kind in (READ, STATUS) else simple(30, 22))
+     of("668e33ef 0001 8001 000000000000001e 00000006 00000016 0000") if kind in (READ, STATUS) else reply(30, 22))
     for what, kind in (("a read", READ), ("a write", WRITE), ("a trim", TRIM), ("zeroes", ZEROES), ("states", STATUS))
     for place in (0, 5, 65536, 65537)
 ]
@@ -142,66 +110,66 @@ EXPORT = "0000000000010000 016d"
 BEGINNINGS = [
     ("the name of the export, without zeroes", of("00000003", EXPORT_NAME), of(GREETING, EXPORT)),
     ("the name of the export, with zeroes", of("00000001", EXPORT_NAME), of(GREETING, EXPORT, bytes(124))),
-    ("the name behind structured replies", of("00000003 49484156454f5054 00000008 00000000", EXPORT_NAME),
+    ("the name after structured replies", of("00000003 49484156454f5054 00000008 00000000", EXPORT_NAME),
      of(GREETING, "0003e889045565a9 00000008 00000001 00000000", "0000000000010000 01ed")),
     ("the name of another export", of("00000003 49484156454f5054 00000001 00000001 61"), GREETING),
     ("a GO that asks for nothing, and a read of a byte",
      of("00000003 49484156454f5054 00000007 00000006 00000000 0000", request(READ, 2, 0, 1)),
      of(GREETING, "0003e889045565a9 00000007 00000003 0000000c 0000", EXPORT, "0003e889045565a9 00000007 00000001 00000000",
-        simple(2), "00")),
+        reply(2), "00")),
     ("an INFO that asks for sizes, and an ABORT",
      of("00000003 49484156454f5054 00000006 00000008 00000000 0001 0003", "49484156454f5054 00000002 00000000"),
      of(GREETING, "0003e889045565a9 00000006 00000003 0000000c 0000", EXPORT,
         "0003e889045565a9 00000006 00000003 0000000e 0003 00000001 00001000 00100000", "0003e889045565a9 00000006 00000001 00000000",
         "0003e889045565a9 00000002 00000001 00000000")),
-    ("the name of the export and a flush at once", of("00000001", EXPORT_NAME, request(FLUSH, 5, 0, 0)),
-     of(GREETING, EXPORT, bytes(124), simple(5))),
+    ("the name of the export and a flush at once", of("00000001", EXPORT_NAME, request(FLUSH, 5)),
+     of(GREETING, EXPORT, bytes(124), reply(5))),
 ]
 
 
 def requests(folder):
     for number, (name, sent, wanted) in enumerate(REQUESTS):
-        with served(folder, f"requests-{number}", 16) as path:
-            check(f"{name}: the first write", simple(1), answers(shaken, path, [FIRST], 16))
-            hold(name, shaken, path, sent, wanted)
-            hold(f"{name}, and a DISC", shaken, path, sent + request(DISC, 9, 7, 7), wanted)
+        with serve_new(folder, f"requests-{number}", 16) as path:
+            check(f"{name}: the first write", reply(1), answers(connect_structured, path, [FIRST], 16))
+            check_stream(name, connect_structured, path, sent, wanted)
+            check_stream(f"{name}, and a DISC", connect_structured, path, sent + request(DISC, 9, 7, 7), wanted)
 
 
 def nothing(folder):
-    with served(folder, "nothing", 16) as path:
+    with serve_new(folder, "nothing", 16) as path:
         for name, sent, wanted in NOTHING:
-            hold(name, shaken, path, sent, wanted)
+            check_stream(name, connect_structured, path, sent, wanted)
 
 
 def beginnings(folder):
-    with served(folder, "beginnings", 16) as path:
+    with serve_new(folder, "beginnings", 16) as path:
         for name, sent, wanted in BEGINNINGS:
-            hold(name, connected, path, sent, wanted)
+            check_stream(name, connect, path, sent, wanted)
 
 
 def by_turns(folder):
     """2,050 blocks, of which the even ones are data, all bytes 'A': states and bytes from byte 1 on."""
-    with served(folder, "turns", 2050) as path:
+    with serve_new(folder, "turns", 2050) as path:
         for begin in range(0, 2050, 256):
             even = range(begin, min(begin + 256, 2050), 2)
             sent = b"".join(request(WRITE, 1, block * BLOCK, BLOCK) + b"A" * BLOCK for block in even)
-            check(f"the even blocks from {begin} on", True, answers(shaken, path, [sent], 16 * len(even)) == simple(1) * len(even))
-        hold("1,024 states of many", shaken, path, request(STATUS, 255, 1, 2050 * BLOCK - 2),
+            check(f"the even blocks from {begin} on", True, answers(connect_structured, path, [sent], 16 * len(even)) == reply(1) * len(even))
+        check_stream("1,024 states of many", connect_structured, path, request(STATUS, 255, 1, 2050 * BLOCK - 2),
              of("668e33ef 0001 0005 00000000000000ff 00002004 00000001 00000fff 00000000", "00001000 00000003 00001000 00000000" * 511, "00001000 00000003"))
         # 257 blocks are touched, the last one by one byte.
         wanted = of("668e33ef 0000 0001 0000000000000007 00001007 0000000000000001", b"A" * 4095)
         for block in range(1, 256, 2):
-            place = hostile.struct.pack(">Q", block * BLOCK)
+            place = struct.pack(">Q", block * BLOCK)
             wanted += of("668e33ef 0000 0002 0000000000000007 0000000c", place, "00001000")
             if block < 255:
-                place = hostile.struct.pack(">Q", (block + 1) * BLOCK)
+                place = struct.pack(">Q", (block + 1) * BLOCK)
                 wanted += of("668e33ef 0000 0001 0000000000000007 00001008", place, b"A" * BLOCK)
         wanted += of("668e33ef 0001 0001 0000000000000007 00000009 0000000000100000 41")
-        found = answers(shaken, path, [request(READ, 7, 1, MIB)], len(wanted))
+        found = answers(connect_structured, path, [request(READ, 7, 1, MIB)], len(wanted))
         check("a read of 1 MiB from byte 1 on", True, found == wanted or (len(wanted), len(found)))
 
 
-# Each type, with the flags that it may have beside FUA, and what its success is answered: of a block that is a hole where it is read.
+# Each type, with the flags that it may have besides FUA, and the answer if it succeeds; what is read is a hole.
 TYPES = [
     (READ, DF, f"668e33ef 0001 0002 %016x 0000000c {15 * BLOCK:016x} 00001000"),
     (WRITE, 0, "67446698 00000000 %016x"),
@@ -217,7 +185,7 @@ TYPES = [
 
 def flags(folder):
     """Each type of request with each flag by itself."""
-    with served(folder, "flags", 16) as path:
+    with serve_new(folder, "flags", 16) as path:
         for kind, allowed, done in TYPES:
             sent = wanted = b""
             for bit in range(16):
@@ -225,46 +193,37 @@ def flags(folder):
                 place = (0, 0) if kind == FLUSH else ((15 if kind in (READ, STATUS) else 1) * BLOCK, BLOCK)
                 sent += request(kind, cookie, *place, flag) + b"A" * (BLOCK * (kind == WRITE))
                 if allowed is not None and flag & (FUA | allowed):
-                    # (with DF a hole is shown by its bytes)
+                    # (with DF the reply has the bytes of a hole)
                     wanted += of(f"668e33ef 0001 0001 {cookie:016x} 00001008 {15 * BLOCK:016x}", bytes(BLOCK)) if flag == DF else of(done % cookie)
                 else:
-                    wanted += of(f"668e33ef 0001 8001 {cookie:016x} 00000006 00000016 0000") if kind in (READ, STATUS) else simple(cookie, 22)
-            check(f"type {kind} with each flag", True, answers(shaken, path, [sent], len(wanted)) == wanted)
+                    wanted += of(f"668e33ef 0001 8001 {cookie:016x} 00000006 00000016 0000") if kind in (READ, STATUS) else reply(cookie, 22)
+            check(f"type {kind} with each flag", True, answers(connect_structured, path, [sent], len(wanted)) == wanted)
         for bit in range(16):
-            check(f"a DISC with flag {bit}", b"", answers(shaken, path, [request(DISC, 1, 0, 0, 1 << bit) + request(FLUSH, 2, 0, 0)], 1))
+            check(f"a DISC with flag {bit}", b"", answers(connect_structured, path, [request(DISC, 1, 0, 0, 1 << bit) + request(FLUSH, 2)], 1))
 
 
 def lengths(folder):
-    """WRITEs that are taken, thrown away and not read, their heads cut in two, and another magic number behind a request."""
-    with served(folder, "lengths", 2050) as path:
+    """WRITEs that are accepted, dropped and not read, their heads cut in two, and a wrong magic number after a request."""
+    with serve_new(folder, "lengths", 2050) as path:
         for length, error in ((0, 22), (1, 0), (BLOCK, 0), (MIB, 0), (MIB + 1, 22), (32 * MIB, 22)):
             head = request(WRITE, 8, 0, length)
             for cut in (0, 1, 27, 28):
-                pieces = [head[:cut], head[cut:], bytes([7]) * length, request(FLUSH, 9, 0, 0)]
-                check(f"a WRITE of {length} bytes, cut at {cut}", simple(8, error) + simple(9), answers(shaken, path, pieces, 32))
-        check("a WRITE that is too long", simple(7), answers(shaken, path, [request(FLUSH, 7, 0, 0) + request(WRITE, 8, 0, 32 * MIB + 1)], 16))
+                pieces = [head[:cut], head[cut:], bytes([7]) * length, request(FLUSH, 9)]
+                check(f"a WRITE of {length} bytes, cut at {cut}", reply(8, error) + reply(9), answers(connect_structured, path, pieces, 32))
+        check("a WRITE that is too long", reply(7), answers(connect_structured, path, [request(FLUSH, 7) + request(WRITE, 8, 0, 32 * MIB + 1)], 16))
         for place in range(4):
-            broken = bytearray(request(FLUSH, 8, 0, 0))
+            broken = bytearray(request(FLUSH, 8))
             broken[place] ^= 1
-            sent = request(FLUSH, 7, 0, 0) + broken + request(FLUSH, 9, 0, 0)
-            check(f"another magic number at {place}", simple(7), answers(shaken, path, [sent], 16))
+            sent = request(FLUSH, 7) + broken + request(FLUSH, 9)
+            check(f"another magic number at {place}", reply(7), answers(connect_structured, path, [sent], 16))
 
 
 def ordered(folder):
-    """In ordered a FLUSH and FUA are offered and answered Ok, though they make nothing durable: a kill may take all. What the rules refuse they
-    refuse there too."""
-    with served(folder, "ordered", 16, "--cache", "ordered", "--flush-interval", "0") as path:
-        sent = FIRST + request(WRITE, 2, BLOCK, 4, FUA) + b"BBBB" + request(FLUSH, 3, 0, 0) + request(FLUSH, 4, 1, 0) + request(TRIM, 5, 0, BLOCK, FUA)
-        hold("requests in ordered", shaken, path, sent, simple(1) + simple(2) + simple(3) + simple(4, 22) + simple(5))
-
-
-def main():
-    with tempfile.TemporaryDirectory() as folder:
-        for scenario in (requests, nothing, beginnings, by_turns, flags, lengths, ordered):
-            hostile.guarded(scenario, folder)
-    print(f"{hostile.passed} passed, {hostile.failed} failed")
-    return hostile.failed > 0
+    """In ordered a FLUSH and FUA are answered Ok, though they make nothing durable. Invalid requests are refused as in other modes."""
+    with serve_new(folder, "ordered", 16, "--cache", "ordered", "--flush-interval", "0") as path:
+        sent = FIRST + request(WRITE, 2, BLOCK, 4, FUA) + b"BBBB" + request(FLUSH, 3) + request(FLUSH, 4, 1, 0) + request(TRIM, 5, 0, BLOCK, FUA)
+        check_stream("requests in ordered", connect_structured, path, sent, reply(1) + reply(2) + reply(3) + reply(4, 22) + reply(5))
 
 
 if __name__ == "__main__":
-    sys.exit(main())
+    sys.exit(checks.run_scenarios((requests, nothing, beginnings, by_turns, flags, lengths, ordered)))

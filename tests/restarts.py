@@ -1,17 +1,14 @@
 #!/usr/bin/env python3
-"""400 restarts of `serve` over one image of each layout, by the built program NBDJ: each server is killed (SIGKILL) while it opens the image, while a client
-that has read all of it waits, or amid a client's writes.
+"""400 restarts of `serve` of the built program NBDJ over one image of each layout. Each server is killed (SIGKILL) while it opens the image,
+while its client is idle, or while its client writes.
 
-What a client reads of the whole image before a kill without load is, byte for byte, what it reads after the restart. After a kill under load
-it is the image after some first commands of those that the client sent, all that a FLUSH confirmed among them; about half of them are of
-whole blocks, and the others of any bytes. The bytes of both header slots are kept at each step, and printed with a difference. Prints a line
-for each check that fails, and last 'N passed, M failed'.
+After a kill without load the image is, byte for byte, what the client read before. After a kill under load it is the image after a prefix of
+the client's commands, and the prefix has every confirmed one. About half of the commands are of whole blocks, the others of any bytes. If the
+image is wrong, the last bytes of both header slots are printed. Prints a line for each check that fails, and last 'N passed, M failed'.
 """
 import contextlib
 import os
 import random
-import signal
-import socket
 import struct
 import subprocess
 import sys
@@ -20,59 +17,32 @@ import threading
 import time
 from concurrent.futures import ThreadPoolExecutor
 
-BLOCK, BLOCKS = 4096, 256
-# The bytes of `--area` by the layout, in both of which each area of the journal has 2 MiB.
+import checks
+from checks import BLOCK, FLUSH, NO_HOLE, READ, TRIM, WRITE, ZEROES, check, connect, format_image, read_address, reply, request, serve, shake, take_all
+
+BLOCKS = 256
+# `--area` by layout; each journal area has 2 MiB in both.
 AREAS = {1: 2097152, 2: 4194304}
 RESTARTS, SECONDS = 400, 90
 SEED = int(os.environ.get("RESTARTS_SEED", "41"))
-READ, WRITE, FLUSH, TRIM, ZEROES = 0, 1, 3, 4, 6
-NO_HOLE = 2
-NBDJ = os.environ["NBDJ"]
-passed, failed = 0, 0
-
-
-def check(name, wanted, got):
-    global passed, failed
-    if wanted == got:
-        passed += 1
-    else:
-        failed += 1
-        print(f"FAILED {name}\n  wanted: {wanted}\n  got:    {got}", flush=True)
 
 
 class Client:
     """A client at a Unix socket, with simple replies."""
 
     def __init__(self, path):
-        self.socket = socket.socket(socket.AF_UNIX)
-        self.socket.settimeout(20)
-        self.socket.connect(path)
+        self.socket = connect(path)
+        shake(self.socket)
         self.cookie = 0
-        go = struct.pack(">IHH", 0, 1, 3)
-        self.socket.sendall(struct.pack(">I", 3) + b"IHAVEOPT" + struct.pack(">II", 7, len(go)) + go)
-        self.take(18)
-        kind = 0
-        while kind != 1:
-            _, _, kind, length = struct.unpack(">QIII", self.take(20))
-            self.take(length)
-
-    def take(self, count):
-        found = bytearray()
-        while len(found) < count:
-            piece = self.socket.recv(count - len(found))
-            if not piece:
-                raise ConnectionError("the server has gone")
-            found += piece
-        return bytes(found)
 
     def ask(self, kind, offset=0, length=0, data=b"", flags=0):
-        """The data of a READ, or nothing; another reply than Ok ends the run."""
+        """The data of a READ, or nothing; a ValueError if the reply isn't Ok."""
         self.cookie += 1
-        self.socket.sendall(struct.pack(">IHHQQI", 0x25609513, flags, kind, self.cookie, offset, length) + data)
-        magic, error, cookie = struct.unpack(">IIQ", self.take(16))
-        if (magic, error, cookie) != (0x67446698, 0, self.cookie):
-            raise ValueError(f"a reply {magic:x}, {error}, {cookie} to request {self.cookie}")
-        return self.take(length) if kind == READ else b""
+        self.socket.sendall(request(kind, self.cookie, offset, length, flags) + data)
+        answer = take_all(self.socket, 16)
+        if answer != reply(self.cookie):
+            raise ValueError(f"a reply {answer.hex()} to request {self.cookie}")
+        return take_all(self.socket, length) if kind == READ else b""
 
     def image(self):
         return self.ask(READ, 0, BLOCKS * BLOCK)
@@ -82,8 +52,7 @@ class Client:
 
 
 class Load:
-    """Commands of one client, in the order in which they were sent: each the byte that it begins with and the bytes that it leaves there. How
-    many of them a FLUSH has confirmed."""
+    """The commands of one client in their order, each as an offset and the bytes that it leaves there, and how many a FLUSH has confirmed."""
 
     numbers = 0
 
@@ -100,7 +69,7 @@ class Load:
             Load.numbers += 1
             data = b"".join(struct.pack(">II", Load.numbers, place) for place in range(offset // 8, (offset + length) // 8 + 1))[offset % 8:][:length]
         if kind == TRIM:
-            # (a trim has its whole blocks alone)
+            # (a TRIM zeroes whole blocks only)
             first, end = (offset + BLOCK - 1) // BLOCK, (offset + length) // BLOCK
             self.sent.append((first * BLOCK, bytes(max(end - first, 0) * BLOCK)))
         else:
@@ -108,7 +77,7 @@ class Load:
         client.ask(kind, offset, length, data if kind == WRITE else b"", source.choice((0, NO_HOLE)) if kind == ZEROES else 0)
 
     def run(self, client, source):
-        """Commands without end, and a FLUSH now and then; the connection's end is the only way out."""
+        """Sends commands, and a FLUSH now and then, until the connection ends."""
         with contextlib.suppress(OSError):
             while True:
                 for _ in range(source.randrange(1, 12)):
@@ -118,7 +87,7 @@ class Load:
                 self.confirmed = count
 
     def leaves(self, image):
-        """The image after each count of first commands that may stand: those that are confirmed, and one more each time."""
+        """The images that a kill may leave, each with its number of commands: from the confirmed ones on, one more each time."""
         image = bytearray(image)
         for count in range(len(self.sent) + 1):
             if count >= self.confirmed:
@@ -135,21 +104,19 @@ class Restarts:
         self.server = None
 
     def start(self):
-        words = [NBDJ, "serve", self.image, "--unix", self.path, "--frames", "512", "--flush-interval", "0"]
-        self.server = subprocess.Popen(words, stdin=subprocess.DEVNULL, stdout=subprocess.PIPE, stderr=subprocess.PIPE)
+        self.server = serve(self.image, "--unix", self.path, "--frames", "512", "--flush-interval", "0", stderr=subprocess.PIPE)
 
     def listens(self):
-        said = self.server.stdout.readline()
-        return said.startswith(b"listening") or self.server.stderr.read().decode(errors="replace")
+        return read_address(self.server) == self.path or self.server.stderr.read()
 
     def kill(self):
-        self.server.send_signal(signal.SIGKILL)
+        self.server.kill()
         self.server.communicate()
         with open(self.image, "rb") as file:
             self.slots = self.slots[-4:] + [[file.read(40).hex(), (file.seek(BLOCK), file.read(40).hex())[1]]]
 
-    def told(self, name):
-        """A failure is told with the last header slots."""
+    def print_slots(self, name):
+        """Prints the last header slots, for a failure."""
         for one, other in self.slots:
             print(f"{name}: slots {one} {other}", flush=True)
 
@@ -161,8 +128,7 @@ def differing(one, other):
 def run(folder, layout):
     source = random.Random(SEED * layout)
     restarts = Restarts(os.path.join(folder, f"{layout}.img"), os.path.join(folder, f"socket{layout}"))
-    words = [NBDJ, "format", restarts.image, "--blocks", str(BLOCKS), "--area", str(AREAS[layout]), "--layout", str(layout)]
-    subprocess.run(words, check=True, stdout=subprocess.DEVNULL)
+    format_image(restarts.image, "--blocks", str(BLOCKS), "--area", str(AREAS[layout]), "--layout", str(layout))
     known, load = bytes(BLOCKS * BLOCK), Load()
     ways = dict.fromkeys(("opening", "idle", "load"), 0)
     began = time.monotonic()
@@ -180,17 +146,17 @@ def run(folder, layout):
         said = restarts.listens()
         if said is not True:
             check(f"layout {layout}, restart {number}: it listens", True, said)
-            restarts.told(f"layout {layout}, restart {number}")
+            restarts.print_slots(f"layout {layout}, restart {number}")
             return ways
         client = Client(restarts.path)
         found = client.image()
         stands = next((count for count, image in load.leaves(known) if image == found), None)
         if stands is None:
             near = next(load.leaves(known))[1]
-            restarts.told(f"layout {layout}, restart {number}")
+            restarts.print_slots(f"layout {layout}, restart {number}")
             check(f"layout {layout}, restart {number}: the image after {load.confirmed} to {len(load.sent)} commands", "none", f"blocks {differing(near, found)}")
             return ways
-        check(f"layout {layout}, restart {number}: the image is one that may stand", True, load.confirmed <= stands <= len(load.sent))
+        check(f"layout {layout}, restart {number}: the image is one that a kill may leave", True, load.confirmed <= stands <= len(load.sent))
         known, load = found, Load()
         if way == "load":
             worker = threading.Thread(target=load.run, args=(client, random.Random(source.random())))
@@ -205,9 +171,12 @@ def run(folder, layout):
     return ways
 
 
-with tempfile.TemporaryDirectory() as temporary:
-    with ThreadPoolExecutor(len(AREAS)) as both:
-        for layout, ways in zip(AREAS, both.map(lambda layout: run(temporary, layout), AREAS)):
+def main():
+    with tempfile.TemporaryDirectory() as folder, ThreadPoolExecutor(len(AREAS)) as both:
+        for layout, ways in zip(AREAS, both.map(lambda layout: run(folder, layout), AREAS)):
             print(f"kills of layout {layout}:", ", ".join(f"{count} {way}" for way, count in ways.items()), flush=True)
-print(f"{passed} passed, {failed} failed")
-sys.exit(failed > 0)
+    return checks.finish()
+
+
+if __name__ == "__main__":
+    sys.exit(main())

@@ -1,11 +1,11 @@
 #!/bin/sh
-# Checks of nbdj-standby over a local file, with the built program NBDJ: two of it in a network namespace of their own, each with an interface
-# and an address. As root, with iproute2, iputils-arping and util-linux. The last line is 'N passed, M failed'.
+# Checks of nbdj-standby over a local file, with the built program NBDJ: two of them in a network namespace, each with an interface and an
+# address. Needs root, iproute2, iputils-arping and util-linux. The last line is 'N passed, M failed'.
 set -u
 here=$(CDPATH='' cd "$(dirname "$0")/.." && pwd)
 if [ "${1:-}" != inside ]; then
     [ "$(id -u)" = 0 ] && command -v ip >/dev/null && command -v arping >/dev/null && unshare --net true 2>/dev/null || {
-        echo 'skipped: nbdj-standby, since it takes root, ip, arping and network namespaces'
+        echo 'skipped: nbdj-standby, because it needs root, ip, arping and network namespaces'
         echo '0 passed, 0 failed'
         exit 0
     }
@@ -20,15 +20,16 @@ fresh 16 2097152
 standby=$here/packaging/nbdj-standby
 first=192.0.2.1/24 second=192.0.2.2/24
 
-# seen FILE TEXT [COUNT]: whether this many lines of the file have the text before twenty seconds are over
+# seen FILE TEXT [COUNT]: whether this many lines of the file have the text within twenty seconds
 seen() {
     for _ in $(seq 200); do
-        [ "$(grep -cF "$2" "$1")" -ge "${3:-1}" ] && echo yes && return
+        count=$(grep -cF "$2" "$1" 2>/dev/null)
+        [ "${count:-0}" -ge "${3:-1}" ] && echo yes && return
         sleep 0.1
     done
     echo no
 }
-# has INTERFACE: the addresses of IPv4 that it has
+# has INTERFACE: its IPv4 addresses
 has() { ip -o -4 address show dev "$1" | awk '{ print $4 }'; }
 
 ip address add $first dev one
@@ -46,28 +47,28 @@ is 'two has no address' '' "$(has two)"
 kill -TERM $one
 wait $one
 is 'the end of one' "0|" "$?|$(has one)"
-is 'what one tells last' "nbdj-standby: gives $first back" "$(tail -n 1 one.log)"
+is 'the last line of one' "nbdj-standby: gives $first back" "$(tail -n 1 one.log)"
 is 'two takes its address' yes "$(seen two.log "nbdj-standby: takes $second")"
 is 'the address of two' "$second" "$(has two)"
 
-# nbdj alone is killed: the address goes, and comes back with the next nbdj.
+# If only nbdj is killed, the address is given back, and taken again with the next nbdj.
 kill -9 "$(pgrep -f "serve --until-eof d.img")"
 is 'two gives its address back' yes "$(seen two.log "nbdj-standby: gives $second back")"
 is 'two serves again' yes "$(seen two.log "nbdj-standby: takes $second" 2)"
 
-# An end while it waits.
+# A stop while it waits.
 "$standby" d.img $first one --listen 127.0.0.1:0 >one.log 2>&1 &
 one=$!
 is 'one waits' yes "$(seen one.log 'waiting for it')"
 kill -TERM $one
 wait $one
-is 'an end that is asked for while it waits' 0 $?
+is 'a stop while it waits' 0 $?
 kill -TERM $two
 wait $two
 is 'the end of two' "0|" "$?|$(has two)"
 
 # A device that hangs.
-${CC:-cc} -Wall -Werror -shared -fPIC -O2 -o stuck_calls.so "$here/tests/preloads/stuck_calls.c" -ldl || exit 1
+preload stuck_calls
 STUCK=$folder/stuck LD_PRELOAD=$folder/stuck_calls.so "$standby" d.img $first one --listen 127.0.0.1:0 --lock-check 0.2 --device-timeout 0.5 >one.log 2>&1 &
 one=$!
 is 'one serves' yes "$(seen one.log "nbdj-standby: takes $first")"
@@ -80,14 +81,14 @@ kill -TERM $one
 wait $one
 is 'the end of one after that' 0 $?
 
-# A reason is told once, and a refused command line ends it.
+# A reason is printed once, and a refused command line ends it.
 "$standby" nothing.img $first one --listen 127.0.0.1:0 >one.log 2>&1 &
 one=$!
 is 'a missing image' yes "$(seen one.log 'nbdj: cannot open nothing.img')"
 sleep 1.5
 kill -TERM $one
 wait $one
-is 'what is told of a missing image' 'nbdj: nothing.img: No such file or directory (os error 2)
+is 'the lines for a missing image' 'nbdj: nothing.img: No such file or directory (os error 2)
 nbdj: cannot open nothing.img' "$(cat one.log)"
 "$standby" d.img $first one --workers 99 >one.log 2>&1
 is 'a refused command line' "2|error: invalid value '99' for '--workers <W>': 99 is not in 1..=16" "$?|$(head -n 1 one.log)"
@@ -95,5 +96,5 @@ is 'a refused command line' "2|error: invalid value '99' for '--workers <W>': 99
 is 'no such interface' '1|Device "nowhere" does not exist.' "$?|$(cat one.log)"
 "$standby" d.img $first >one.log 2>&1
 is 'too few words' '2|usage: nbdj-standby' "$?|$(cut -c1-19 one.log)"
-is 'nothing is left' '' "$(pgrep -f "serve --until-eof")"
+is 'no nbdj is left' '' "$(pgrep -f "serve --until-eof")"
 the_end

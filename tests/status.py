@@ -1,6 +1,6 @@
 #!/usr/bin/env python3
-"""What `serve --status` of the built program NBDJ tells: the figures after a load that is known, while a sync takes long, after a fault of
-the device, and to clients that send what is no request; and how `nbdj status` prints them.
+"""The figures of `serve --status` of the built program NBDJ: after a known load, during a slow sync, after a device fault, and for clients
+that send no valid request; and how `nbdj status` prints them.
 
 Prints a line for each check that fails, and last 'N passed, M failed'. The bytes of a command in the journal are those of docs/FORMATS.md: 13
 and its data, and 17 for each group.
@@ -17,29 +17,27 @@ import socket
 import stat
 import subprocess
 import sys
-import tempfile
 import threading
 import time
 
-import hostile
-from hostile import BLOCK, DISC, FLUSH, FRAMES, MIB, NBDJ, READ, TRIM, WRITE, ZEROES, Server, check, request, take
-from operating import EIO, limited, reply
-from operating import slow as slow_device
+import checks
+from checks import (
+    BLOCK, BLOCKS, DISC, EINVAL, EIO, FLUSH, FRAMES, MIB, NBDJ, READ, TOP, TRIM, WRITE, ZEROES, Server, check, connect, format_image, reply, request,
+    take,
+)
+from hostile import SEED
+from operating import limit_file_size, slow_syncs
 
-EINVAL = 22
-TOP = os.path.dirname(os.path.dirname(os.path.abspath(__file__)))
 ROUNDS = 10_000
 
 
 def ask(path, method="GET", target="/status", version="HTTP/1.1", seconds=20):
-    """The status line, the fields and the body that the socket at a path answers."""
-    return answered(path, f"{method} {target} {version}\r\nHost: x\r\n\r\n".encode(), seconds)
+    """The status line, the fields and the body of the answer from the socket at a path."""
+    return send_raw(path, f"{method} {target} {version}\r\nHost: x\r\n\r\n".encode(), seconds)
 
 
-def answered(path, sent, seconds=20):
-    with socket.socket(socket.AF_UNIX) as client:
-        client.settimeout(seconds)
-        client.connect(path)
+def send_raw(path, sent, seconds=20):
+    with connect(path, seconds) as client:
         with contextlib.suppress(BrokenPipeError, ConnectionResetError):
             client.sendall(sent)
             client.shutdown(socket.SHUT_WR)
@@ -63,8 +61,8 @@ def samples(path):
 
 
 @contextlib.contextmanager
-def told(folder, name, *words, **settings):
-    """A server with a status socket, and the path of that."""
+def serve_with_status(folder, name, *words, **settings):
+    """A server with a status socket, and the path of that socket."""
     path = os.path.join(folder, f"{name}.status")
     with Server(folder, name, 2, "--status", path, *words, **settings) as server:
         yield server, path
@@ -75,7 +73,7 @@ def write(client, cookie, offset, data, flags=0):
     return take(client, 16)
 
 
-def sent(client, kind, cookie, offset, length):
+def send(client, kind, cookie, offset, length):
     client.sendall(request(kind, cookie, offset, length))
     return take(client, 16)
 
@@ -84,12 +82,12 @@ def known_load(client):
     """Five WRITEs of a block, a TRIM and a WRITE_ZEROES of 16 blocks, three READs of two blocks, and one beyond the end."""
     for number in range(5):
         check("known: a write", reply(number), write(client, number, number * BLOCK, bytes([number + 1]) * BLOCK))
-    check("known: a trim", reply(5), sent(client, TRIM, 5, MIB, 16 * BLOCK))
-    check("known: a write of zeroes", reply(6), sent(client, ZEROES, 6, 2 * MIB, 16 * BLOCK))
+    check("known: a trim", reply(5), send(client, TRIM, 5, MIB, 16 * BLOCK))
+    check("known: a write of zeroes", reply(6), send(client, ZEROES, 6, 2 * MIB, 16 * BLOCK))
     for number in range(3):
-        check("known: a read", reply(7 + number), sent(client, READ, 7 + number, 0, 2 * BLOCK))
+        check("known: a read", reply(7 + number), send(client, READ, 7 + number, 0, 2 * BLOCK))
         take(client, 2 * BLOCK)
-    check("known: a read beyond the end", reply(10, EINVAL), sent(client, READ, 10, hostile.BLOCKS * BLOCK, BLOCK))
+    check("known: a read beyond the end", reply(10, EINVAL), send(client, READ, 10, BLOCKS * BLOCK, BLOCK))
 
 
 BODIES = 5 * (13 + BLOCK) + 2 * 13
@@ -112,10 +110,10 @@ AFTER = {
 
 
 def known(folder):
-    """A load that is known, before and after a FLUSH."""
-    with told(folder, "known", "--flush-interval", "0", "--until-eof", stdin=subprocess.PIPE) as (server, path):
+    """A known load, before and after a FLUSH."""
+    with serve_with_status(folder, "known", "--flush-interval", "0", "--until-eof", stdin=subprocess.PIPE) as (server, path):
         check("known: the mode of the socket", 0o600, stat.S_IMODE(os.stat(path).st_mode))
-        with server.shaken() as client:
+        with server.new_client() as client:
             began = time.monotonic()
             known_load(client)
             time.sleep(0.3)
@@ -126,24 +124,24 @@ def known(folder):
             check("known: before a flush", BEFORE, {name: before.get(name) for name in BEFORE})
             age = before["pending_age_microseconds"] / 1e6
             check("known: the age of what is pending", True, 0.3 <= age <= most and age >= least - 0.3)
-            check("known: a flush", reply(11), sent(client, FLUSH, 11, 0, 0))
+            check("known: a flush", reply(11), send(client, FLUSH, 11, 0, 0))
             after = figures(path)
             check("known: after a flush", AFTER, {name: after.get(name) for name in AFTER})
             check("known: the group took two syncs", 2, after["syncs"] - syncs)
             check_latencies(after)
             check_metrics(path)
-            client.sendall(request(DISC, 12, 0, 0))
+            client.sendall(request(DISC, 12))
             take(client, 1)
-        check("known: a client that left", True, waited(lambda: figures(path)["clients"] == 0))
-        check("known: the image that is told", server.image, figures(path)["image"])
+        check("known: a client that left", True, holds_within(lambda: figures(path)["clients"] == 0))
+        check("known: the name of the image", server.image, figures(path)["image"])
         check_printed(path)
         server.process.stdin.close()
         check("known: the end", 0, server.process.wait(timeout=20))
         check("known: the socket is gone", False, os.path.exists(path))
 
 
-def waited(holds, seconds=10):
-    """Whether something comes to hold within some seconds."""
+def holds_within(holds, seconds=10):
+    """Whether a condition holds within some seconds."""
     late = time.monotonic() + seconds
     while not holds():
         if time.monotonic() > late:
@@ -168,7 +166,7 @@ def check_latencies(after):
 
 
 def check_metrics(path):
-    """/metrics tells the same figures, in the format of Prometheus."""
+    """/metrics has the same figures, in the format of Prometheus."""
     line, fields, text = ask(path, target="/metrics")
     check("known: /metrics", "HTTP/1.1 200 OK", line)
     check("known: its type", "text/plain; version=0.0.4; charset=utf-8", fields.get("Content-Type"))
@@ -191,14 +189,14 @@ def check_metrics(path):
         judged = subprocess.run(["promtool", "check", "rules", f"{TOP}/packaging/alerts.yml"], capture_output=True, text=True, timeout=60)
         check("known: promtool on the alerts", (0, ""), (judged.returncode, judged.stderr))
     else:
-        print("promtool isn't installed, so only this script judges the format")
+        print("promtool isn't installed, so only this script checks the format")
 
 
 SAMPLE = re.compile(r'([a-z_]+)(\{[a-z_]+="[^"]*"(?:,[a-z_]+="[^"]*")*\})? (-?[0-9.]+)')
 
 
 def check_format(text):
-    """Each family has a line of HELP and one of TYPE, then its samples, each once; and what the alerts and the dashboard name is there."""
+    """Each family has a line of HELP and one of TYPE, then its samples, each once. The figures that alerts and dashboard use are there."""
     amiss, families, samples_seen, family = [], {}, set(), None
     for line in text.splitlines():
         words = line.split(" ", 3)
@@ -226,12 +224,11 @@ def check_format(text):
 
 
 def run(*words):
-    found = subprocess.run([NBDJ, "status", *words], capture_output=True, text=True, timeout=60)
-    return found.returncode, found.stdout, found.stderr
+    return checks.run("status", *words)
 
 
 def check_printed(path):
-    """What `nbdj status` prints of them."""
+    """How `nbdj status` prints the figures."""
     status, output, _ = run(path)
     check("printed: the status", 0, status)
     lines = output.splitlines()
@@ -245,13 +242,13 @@ def check_printed(path):
     check("printed: as JSON", (0, wanted, 1), (status, found, output.count("\n")))
     nowhere = path + ".none"
     check("printed: no server there", (1, "", f"nbdj: no figures from {nowhere}\n"), run(nowhere))
-    check("printed: no server there, told", (1, "", f"nbdj: {nowhere}: No such file or directory (os error 2)\nnbdj: no figures from {nowhere}\n"), run(nowhere, "-v"))
+    check("printed: no server there, with -v", (1, "", f"nbdj: {nowhere}: No such file or directory (os error 2)\nnbdj: no figures from {nowhere}\n"), run(nowhere, "-v"))
     check("printed: both forms", 2, run(path, "--json", "--watch")[0])
     check_watched(path)
 
 
 def check_watched(path):
-    """Each second a line, or a screen on a terminal."""
+    """With `--watch` there is a line each second, or a screen on a terminal."""
     with subprocess.Popen([NBDJ, "status", path, "--watch"], stdout=subprocess.PIPE, text=True) as watching:
         lines = [watching.stdout.readline() for _ in range(2)]
         watching.kill()
@@ -270,8 +267,8 @@ def check_watched(path):
 
 
 def requests_of_others(folder):
-    """What isn't a request of one of the three paths."""
-    with told(folder, "others") as (server, path):
+    """Requests that aren't for one of the three paths."""
+    with serve_with_status(folder, "others") as (server, path):
         for name, sent_bytes, wanted in (
             ("another path", b"GET /x HTTP/1.1\r\n\r\n", "404 Not Found"),
             ("another method", b"POST /status HTTP/1.1\r\n\r\n", "405 Method Not Allowed"),
@@ -281,73 +278,71 @@ def requests_of_others(folder):
             ("many fields", b"GET /status HTTP/1.1\r\n" + b"X: x\r\n" * 40 + b"\r\n", "431 Request Header Fields Too Large"),
             ("an old version", b"GET /status HTTP/1.0\r\n\r\n", "200 OK"),
         ):
-            line, fields, body = answered(path, sent_bytes)
+            line, fields, body = send_raw(path, sent_bytes)
             check(f"others: {name}", f"HTTP/1.1 {wanted}", line)
             check(f"others: {name}, its length", str(len(body.encode())), fields.get("Content-Length"))
-        check("others: half a request", ("", {}, ""), answered(path, b"GET /sta"))
+        check("others: half a request", ("", {}, ""), send_raw(path, b"GET /sta"))
         server.goes_on("after other requests")
 
 
 def mutated(folder):
-    """Requests with random bytes changed, left out and added, while a client of the device goes on."""
-    drawn = random.Random(hostile.SEED)
+    """Requests with random bytes changed, removed and added, while another client reads from the export."""
+    drawn = random.Random(SEED)
     good = b"GET /metrics HTTP/1.1\r\nHost: x\r\nAccept: */*\r\n\r\n"
-    with told(folder, "mutated") as (server, path):
+    with serve_with_status(folder, "mutated") as (server, path):
         worst, is_over = [0.0], threading.Event()
 
         def go_on():
-            with server.shaken() as client:
+            with server.new_client() as client:
                 while not is_over.is_set():
                     began = time.monotonic()
-                    sent(client, READ, 1, 0, BLOCK)
+                    send(client, READ, 1, 0, BLOCK)
                     take(client, BLOCK)
                     worst[0] = max(worst[0], time.monotonic() - began)
 
-        beside = threading.Thread(target=go_on)
-        beside.start()
+        reader = threading.Thread(target=go_on)
+        reader.start()
         for _ in range(ROUNDS):
             bad = bytearray(good)
             for _ in range(drawn.randrange(1, 6)):
                 place = drawn.randrange(len(bad))
                 bad[place:place + drawn.randrange(3)] = bytes(drawn.randrange(256) for _ in range(drawn.randrange(3)))
                 bad = bad or bytearray(b"x")
-            answered(path, bytes(bad))
+            send_raw(path, bytes(bad))
         is_over.set()
-        beside.join()
-        check("mutated: a client of the device never waits for a second", True, worst[0] < 1)
+        reader.join()
+        check("mutated: a client of the export never waits for a second", True, worst[0] < 1)
         check("mutated: a good request", "HTTP/1.1 200 OK", ask(path)[0])
         server.goes_on("after mutated requests")
 
 
 def silent(folder):
-    """As many clients as are answered at a time say nothing: a further one waits, and the device's clients don't."""
-    with told(folder, "silent", "--until-eof", stdin=subprocess.PIPE) as (server, path):
+    """Four silent clients occupy the status socket: a fifth one waits, and clients of the export don't."""
+    with serve_with_status(folder, "silent", "--until-eof", stdin=subprocess.PIPE) as (server, path):
         with contextlib.ExitStack() as clients:
             for _ in range(4):
-                client = clients.enter_context(socket.socket(socket.AF_UNIX))
-                client.connect(path)
+                clients.enter_context(connect(path))
             began = time.monotonic()
-            server.goes_on("beside silent clients of the status socket")
-            check("silent: the device's clients don't wait", True, time.monotonic() - began < 1.5)
+            server.goes_on("during silent clients of the status socket")
+            check("silent: the export's clients don't wait", True, time.monotonic() - began < 1.5)
             check("silent: a further one is answered", "HTTP/1.1 200 OK", ask(path)[0])
             check("silent: it waits for no more than three seconds", True, time.monotonic() - began < 4.5)
             for _ in range(4):
-                client = clients.enter_context(socket.socket(socket.AF_UNIX))
-                client.connect(path)
+                clients.enter_context(connect(path))
             server.process.stdin.close()
             check("silent: the end", 0, server.process.wait(timeout=20))
 
 
 def slow(folder):
-    """While a sync takes five seconds the figures are told at once, with what is pending."""
-    with told(folder, "slow", "--flush-interval", "0", **slow_device(folder)) as (server, path):
-        with server.shaken() as client:
+    """While a sync takes five seconds, the figures come at once, with what is pending."""
+    with serve_with_status(folder, "slow", "--flush-interval", "0", **slow_syncs(folder)) as (server, path):
+        with server.new_client() as client:
             check("slow: a write", reply(1), write(client, 1, 0, bytes(BLOCK)))
-            client.sendall(request(FLUSH, 2, 0, 0))
+            client.sendall(request(FLUSH, 2))
             time.sleep(0.5)
             began = time.monotonic()
             found = figures(path)
-            check("slow: told at once", True, time.monotonic() - began < 1)
+            check("slow: the figures come at once", True, time.monotonic() - began < 1)
             check("slow: what is pending", (1, 13 + BLOCK, 0, 1), (found["pending_commands"], found["pending_bytes"], found["durable_number"], found["accepted_number"]))
             check("slow: its age", True, 400_000 <= found["pending_age_microseconds"] <= 5_000_000)
             check("slow: the flush", reply(2), take(client, 16))
@@ -357,21 +352,21 @@ def slow(folder):
 
 
 def faulty(folder):
-    """After a fault of the device a server that stays still tells its figures."""
-    with told(folder, "faulty", "--on-fault", "stay", **limited()) as (server, path):
-        with server.shaken() as client:
+    """After a device fault a server with `--on-fault stay` still gives its figures."""
+    with serve_with_status(folder, "faulty", "--on-fault", "stay", **limit_file_size()) as (server, path):
+        with server.new_client() as client:
             write(client, 1, 0, bytes(BLOCK))
-            check("faulty: a flush", reply(2, EIO), sent(client, FLUSH, 2, 0, 0))
+            check("faulty: a flush", reply(2, EIO), send(client, FLUSH, 2, 0, 0))
         found = figures(path)
         check("faulty: the error is counted", (1, 1), (found["errors"]["EIO"], found["requests"]["flush"]))
         check("faulty: nothing is durable", 0, found["durable_number"])
 
 
 def stored(folder):
-    """Writes that no client flushes are stored when `nbdj status --store` has returned, and a kill takes only later ones."""
-    with told(folder, "stored", "--flush-interval", "0") as (server, path):
+    """Unflushed writes are stored once `nbdj status --store` has returned, and a kill loses only later ones."""
+    with serve_with_status(folder, "stored", "--flush-interval", "0") as (server, path):
         check("stored: nothing yet", (0, "stored 0\n", ""), run(path, "--store"))
-        with server.shaken() as client:
+        with server.new_client() as client:
             for number in range(3):
                 write(client, number, number * BLOCK, bytes([number + 1]) * BLOCK)
             check("stored: pending before", 3, figures(path)["pending_commands"])
@@ -379,16 +374,15 @@ def stored(folder):
             check("stored: nothing pending", (0, 3), (figures(path)["pending_commands"], figures(path)["durable_number"]))
             check("stored: as a request", ("HTTP/1.1 200 OK", "3\n"), ask(path, "POST", "/store")[::2])
             write(client, 9, 3 * BLOCK, bytes([4]) * BLOCK)
-            server.process.kill()
-            server.process.wait(timeout=20)
-        check("stored: after a kill", "commands 3\n", subprocess.run([NBDJ, "recover", server.image], capture_output=True, text=True, timeout=60).stdout)
+            server.kill()
+        check("stored: after a kill", "commands 3\n", checks.run("recover", server.image)[1])
     check("stored: no server", (1, "", f"nbdj: not stored by {path}\n"), run(path, "--store"))
 
 
 def stored_slowly(folder):
-    """While it is stored, which takes two syncs of five seconds, figures are told at once, and a second client is told to come again."""
-    with told(folder, "slowly", "--flush-interval", "0", **slow_device(folder)) as (server, path):
-        with server.shaken() as client:
+    """While `--store` waits for two syncs of five seconds, figures come at once, and a second `--store` gets 409 and tries again."""
+    with serve_with_status(folder, "slowly", "--flush-interval", "0", **slow_syncs(folder)) as (server, path):
+        with server.new_client() as client:
             write(client, 1, 0, bytes(BLOCK))
             began = time.monotonic()
             first = subprocess.Popen([NBDJ, "status", "--store", path], stdout=subprocess.PIPE, text=True)
@@ -403,32 +397,24 @@ def stored_slowly(folder):
 
 
 def stored_by_a_device_that_fails(folder):
-    """Nothing is said to be stored by a device that has failed."""
-    with told(folder, "unstored", "--on-fault", "stay", "--flush-interval", "0", **limited()) as (server, path):
-        with server.shaken() as client:
+    """`--store` fails after a device fault."""
+    with serve_with_status(folder, "unstored", "--on-fault", "stay", "--flush-interval", "0", **limit_file_size()) as (server, path):
+        with server.new_client() as client:
             write(client, 1, 0, bytes(BLOCK))
             check("unstored: it says so", (1, "", f"nbdj: not stored by {path}\n"), run(path, "--store"))
             check("unstored: nothing is durable", 0, figures(path)["durable_number"])
 
 
 def unopened(folder):
-    """A socket that can't be made."""
+    """A status socket that can't be made."""
     path = os.path.join(folder, "no", "where")
     image = os.path.join(folder, "unopened.img")
-    subprocess.run([NBDJ, "format", image, "--size", "4M", "--area", "4M"], check=True, stdout=subprocess.DEVNULL)
-    found = subprocess.run([NBDJ, "serve", image, "--unix", os.path.join(folder, "s"), "--status", path], capture_output=True, text=True, timeout=60)
-    check("unopened: what is told", (1, "", f"nbdj: {path}: No such file or directory (os error 2)\nnbdj: stream fault (21)\n"), (found.returncode, found.stdout, found.stderr))
+    format_image(image, "--size", "4M", "--area", "4M")
+    found = checks.run("serve", image, "--unix", os.path.join(folder, "s"), "--status", path)
+    check("unopened: the messages", (1, "", f"nbdj: {path}: No such file or directory (os error 2)\nnbdj: stream fault (21)\n"), found)
 
 
-def main():
-    with tempfile.TemporaryDirectory() as folder:
-        for scenario in (known, requests_of_others, mutated, silent, slow, faulty, stored, stored_slowly, stored_by_a_device_that_fails, unopened):
-            begun = time.monotonic()
-            hostile.guarded(scenario, folder)
-            print(f"{scenario.__name__}: {time.monotonic() - begun:.1f} s", flush=True)
-    print(f"{hostile.passed} passed, {hostile.failed} failed")
-    return hostile.failed > 0
-
+SCENARIOS = (known, requests_of_others, mutated, silent, slow, faulty, stored, stored_slowly, stored_by_a_device_that_fails, unopened)
 
 if __name__ == "__main__":
-    sys.exit(main())
+    sys.exit(checks.run_scenarios(SCENARIOS))

@@ -1,18 +1,18 @@
 #!/bin/sh
-# Checks of the built program NBDJ where standard streams are closed, or go into the image that it works on. Prints a line for each check
+# Checks of the built program NBDJ with standard streams that are closed, or that go into its image. Prints a line for each check
 # that fails, and last 'N passed, M failed'.
 set -u
 here=$(CDPATH='' cd "$(dirname "$0")/.." && pwd)
 . "$here/tests/checks.sh"
 
-# An image with a stored group, which an opening copies into the map, what a client sends, and a script.
+# An image with a stored group, the requests of a client, and a script.
 fresh 16 2097152
 bytes '01 0000000d 0000000000000001 00000001 02 0000000000000000 00000004 00' | dd of=d.img bs=1 seek=8192 conv=notrunc 2>/dev/null
 cp d.img stored.img
 { request 0001 1 1 4096 4096; filled 4096 A; request 0000 2 2 0 0; } >requests
 cp "$here/examples/crash-before-the-flush.script" script
 
-# ran COMMAND STREAMS: the status of a command over the stored image with these redirections, and the sum of the image after it
+# ran COMMAND STREAMS: the status of a command over a copy of the image with these redirections, and the checksum of the image after it
 ran() {
     cp stored.img d.img
     case $1 in
@@ -24,11 +24,7 @@ ran() {
     serve*)
         sh -c "exec timeout 60 \"\$NBDJ\" $1 $2" <"$input" >said 2>&1 &
         serving=$!
-        tries=0
-        until [ -S d.sock ] || [ "$tries" -eq 200 ]; do
-            sleep 0.05
-            tries=$((tries + 1))
-        done
+        wait_for 10 test -S d.sock
         "$here/tools/copy-export" d.sock copy >/dev/null
         wait "$serving"
         ;;
@@ -38,7 +34,7 @@ ran() {
     rm -f d.sock
 }
 
-# With streams closed each command does to the image what it does where they lead nowhere, and ends with the same status.
+# With closed streams each command does the same to the image as with /dev/null, and ends with the same status.
 while read -r closed nowhere; do
     closed=$(echo "$closed" | tr , ' ')
     nowhere=$(echo "$nowhere" | tr , ' ')
@@ -64,7 +60,7 @@ done <<'STREAMS'
 <&-,>&-,2>&- </dev/null,>/dev/null,2>/dev/null
 STREAMS
 
-# What is printed doesn't go into the image: a command whose output or errors would is refused, and the image stays as it is.
+# A command whose output or errors would go into the image is refused, and the image stays as it is.
 while read -r command; do
     for stream in '>>' '1<>' '2>>' '2<>'; do
         cp stored.img d.img

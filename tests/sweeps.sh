@@ -1,8 +1,8 @@
 #!/bin/sh
-# Sweeps scripts with the built program NBDJ: each is run anew for each crash at a call of the device, and for each fault of one, and
-# what is opened afterwards is compared with plain bytes. Swept are the scripts of tests/scripts, without their lines that crash the
-# device or let a call of it fail, those of docs/FORMATS.md, and some that are drawn. Prints how many runs with a crash there were, and
-# last 'N passed, M failed'. Those that take many minutes are swept with --long alone.
+# Sweeps scripts with the built program NBDJ: each is run again for each crash at a device call, and for each fault of one, and the opened
+# image is compared with plain bytes. The scripts are those of tests/scripts and of docs/FORMATS.md, without their lines `crash` and `fault`,
+# and some random ones. Prints how many runs with a crash there were, and last 'N passed, M failed'. --long sweeps only the scripts that take
+# many minutes, which no other run does.
 #
 # usage: tests/sweeps.sh [--long | --sample SEED]          (--sample: in an order drawn from the seed, for a minute)
 set -u
@@ -11,10 +11,10 @@ here=$(CDPATH='' cd "$(dirname "$0")/.." && pwd)
 runs=0
 seed=
 [ "${1:-}" != --sample ] || seed=$2
-# For so many seconds scripts of the sample are begun.
+# For this many seconds new scripts of the sample are begun.
 SAMPLE_SECONDS=60
 
-# Scripts with hundreds of calls of the device, or of a large one.
+# Scripts with hundreds of device calls, or a large device.
 long='checkpoint_lets_frames_go edge_is_held_before_its_read edge_waits_for_a_frame group_of_seven_puts_of_257_blocks
 no_frame_left_for_bytes read_of_old_bytes_fails_after_an_eviction area_of_half_the_bytes_is_full room_after_each_finish
 two_finishes_and_one_clean upgrade_in_a_checkpoint crash_in_an_upgrade three_areas_wait
@@ -28,11 +28,11 @@ swept() {
     is "the sweep of $1" "0|$(printf 'calls %s\nruns %s\nok' "$calls" $((5 * (${calls:-0} + 1))))|" "$status|$(cat output)|$errors"
     run rehearse --faults
     is "the faults of $1" '0|ok|' "$status|$(tail -n 1 output)|$errors"
-    # each call of the device fails once
+    # (each device call fails once)
     is "the calls of $1" "${calls:-}" "$(awk '{ if (NF == 2) sum += $2 } END { print sum + 0 }' output)"
 }
 
-# without_trouble FILE: a script without the lines that crash the device or let a call of it fail
+# without_trouble FILE: writes a script to `input` without its lines `crash` and `fault`
 without_trouble() { grep -v -e '^crash ' -e '^fault ' "$1" >input; }
 
 if [ "${1:-}" = --long ]; then
@@ -45,18 +45,18 @@ if [ "${1:-}" = --long ]; then
     exit
 fi
 
-# One put that is stored: a write and a sync of the body, and of the gate. Nothing is read.
+# A put that is stored takes a write and a sync of the body, and of the gate; nothing is read.
 printf '%s\n' 'format 16 2097152 512' 'send 1 put 0 1 41' 'serve 1' 'answer 1' seal append publish >input
 ends 'a put that is stored, swept' 0 "$(printf '%s\n' 'calls 4' 'runs 25' ok | hex)" '' rehearse --sweep
 ends 'the faults of a put that is stored' 0 "$(printf '%s\n' 'reads 0' 'writes 2' 'syncs 2' ok | hex)" '' rehearse --faults
-# Requests of bytes read no old ones from the device where they are in memory: a group alone makes calls.
+# Requests of bytes whose old bytes are in memory read nothing: only the group makes device calls.
 for name in bytes_across_two_holes zeroes_between_two_edges; do
     without_trouble "$here/tests/scripts/$name.in"
     ends "$name, swept" 0 "$(printf '%s\n' 'calls 4' 'runs 25' ok | hex)" '' rehearse --sweep
     ends "the faults of $name" 0 "$(printf '%s\n' 'reads 0' 'writes 2' 'syncs 2' ok | hex)" '' rehearse --faults
 done
 
-# A script is read to its end before anything runs, and no line of it crashes the device or lets a call of it fail.
+# A script is read to its end before anything runs, and must have no line `crash` or `fault`.
 for how in --sweep --faults; do
     for line in 'crash ff' 'crash at 1 00' 'fault sync 1' 'no step' '' 'format 16 2097152 512'; do
         printf 'format 16 2097152 512\nsend 1 flush\n%s\nseal\n' "$line" >input
@@ -70,13 +70,13 @@ done
 : >input
 run rehearse --sweep --faults
 is 'one of both at a time' 2 "$status"
-# An upgrade for which the areas are too small ends each run.
+# An upgrade of areas that are too small ends each run.
 printf '%s\n' 'format 16 2097152 512' 'send 1 put 0 1 41' 'serve 1' 'answer 1' seal append publish upgrade >input
 for how in --sweep --faults; do ends "an upgrade of small areas, $how" 1 "$(text 'failed 22')" '' rehearse "$how"; done
 
 block() { awk -v kind="$1" -v k="$2" '$0 == "```" kind { n++; on = n == k; next } /^```/ { on = 0 } on' "$here/docs/FORMATS.md"; }
 
-# names: the scripts that are swept, those of the page as `page K`, in the order of their names or in one drawn from the seed
+# names: the scripts to sweep, those of docs/FORMATS.md as `page K`
 names() {
     for script in "$here"/tests/scripts/*.in; do
         name=$(basename "$script" .in)
@@ -102,22 +102,21 @@ while read -r name; do
 done <order
 echo "$count of $(wc -l <order) scripts were swept"
 
-# drawn SEED: a script of requests of bytes that often begin or end at the border of a block or beside it, with groups and checkpoints
-# between them
+# drawn SEED: a script of requests of bytes that often begin or end at a border of blocks or next to one, with groups and checkpoints between
 drawn() {
     awk -v x="$1" '
         function below(n) { x = x * 16807 % 2147483647; return x % n }
-        function beside(  k) { k = below(6); return k == 0 ? 0 : k == 1 ? 1 : k == 2 ? 4095 : k == 3 ? 4096 : below(4096) }
+        function near(  k) { k = below(6); return k == 0 ? 0 : k == 1 ? 1 : k == 2 ? 4095 : k == 3 ? 4096 : below(4096) }
         function ask(what) { print "send 1 " what; print "serve 1"; print "answer 1" }
         function store() { print "seal"; print "append"; print "publish"; print "answer 1" }
         BEGIN {
             print "format 16 2097152 512"
             for (k = 1; k <= 24; k++) {
                 first = below(13)
-                from = 4096 * first + beside()
-                behind = 4096 * (first + below(4)) + beside()
-                if (behind <= from) behind = from + 1 + below(300)
-                range = from " " behind - from
+                from = 4096 * first + near()
+                end = 4096 * (first + below(4)) + near()
+                if (end <= from) end = from + 1 + below(300)
+                range = from " " end - from
                 kind = below(9)
                 fua = below(6) == 0
                 last = fua ? " fua" : ""
@@ -134,7 +133,7 @@ drawn() {
 for drawn_from in ${seed:-4711 20260 998244353}; do
     drawn "$drawn_from" >input
     swept "the script of seed $drawn_from"
-    # In ordered a FLUSH and a FUA promise nothing, and what is opened has first writes alone.
+    # In ordered, where a FLUSH makes nothing durable, the opened image is that after any prefix of the writes.
     drawn "$drawn_from" | sed '1s/$/ ordered/' >input
     swept "the script of seed $drawn_from in ordered"
 done

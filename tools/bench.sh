@@ -1,17 +1,19 @@
 #!/bin/sh
-# Measures `nbdj serve`, by the program NBDJ, beside nbdkit's file plugin, the same behind nbdkit's cache filter, and qemu-nbd: one run on
-# one machine, over Unix sockets, each server with an image of 512 MiB of its own that is filled before. Prints a table in Markdown, with
-# nbdj's ratio to the best of the others. It is part of no gate.
-# A second table has what writers, a flusher and a reader get beside one another. A third one has nbdj and nbdkit's file plugin with syncs
-# that take SLOW_SYNCS microseconds more (0 1000 5000), by a preload that sleeps in them: READs alone and beside 4 connections that write and
-# flush, and such connections. A fourth one has how long writes wait while the journal fills all the time, in both layouts of nbdj, with
-# areas of 16 MiB (4 of 8), and beside the others, for FILLING_SECONDS (60). A fifth one, only where it is asked for, has random WRITEs over
-# 2 GiB for SUSTAINED_SECONDS (120), of nbdj with two sizes of frames and areas and of nbdkit's file plugin, each limited to 256 MiB of memory
-# with its page cache, over images that were written by 1 MiB and by 4 KiB; it needs root and the memory controller of cgroups.
-# TABLES (servers syncs filling) says which are made: the first two, the third, the fourth; sustained is the fifth.
-# It needs cc and Debian's libnbd-dev, nbdkit and qemu-utils. ROUNDS (1) says how often each is measured, the servers in turn; the median
-# counts. BENCH_SECONDS (4) is the time of each measurement, BENCH_FOLDER where the images are, TMPDIR otherwise. After the time each
-# client waits for the answers that are due.
+# Measures `nbdj serve` of the program NBDJ, nbdkit's file plugin with and without nbdkit's cache filter, and qemu-nbd, in one run on one
+# machine, over Unix sockets, each with an image of 512 MiB that is filled before. It prints tables in Markdown. It is part of no gate.
+#
+# 1. Rates, and the ratio of nbdj to the best of the others.
+# 2. A reader, a flusher and writers at the same time.
+# 3. nbdj and nbdkit's file plugin with syncs that take SLOW_SYNCS (0 1000 5000) microseconds more, by a preload that sleeps: READs alone, READs
+#    while 4 connections write and flush, and such connections.
+# 4. How long writes wait while the journal is always full, for FILLING_SECONDS (60): the other servers, and nbdj in both layouts with areas of
+#    16 MiB (layout 2: 8).
+# 5. Random WRITEs over 2 GiB for SUSTAINED_SECONDS (120), over images that were written by 1 MiB and by 4 KiB: nbdj with two sizes of frames and
+#    areas, and nbdkit's file plugin, each limited to 256 MiB of memory with its page cache. It needs root and the memory controller of cgroups.
+#
+# TABLES (servers syncs filling) says which are made: servers the first two, syncs the third, filling the fourth, sustained the fifth.
+# It needs cc and Debian's libnbd-dev, nbdkit and qemu-utils. Each server is measured ROUNDS (1) times, and the medians are printed. A measurement
+# takes BENCH_SECONDS (4); then each client waits for answers that are due. The images are in BENCH_FOLDER, by default TMPDIR.
 set -eu
 here=$(CDPATH='' cd "$(dirname "$0")/.." && pwd)
 rounds=${ROUNDS:-1} seconds=${BENCH_SECONDS:-4}
@@ -27,7 +29,7 @@ stop() {
         kill "$server" 2>/dev/null || true
         wait "$server" 2>/dev/null || true
         server=''
-        # (what it has left in the system's cache is the next one's burden otherwise)
+        # (otherwise the next server would have to wait for what this one left in the page cache)
         sync
     fi
 }
@@ -41,7 +43,7 @@ servers='nbdj nbdkit cache qemu'
 "$NBDJ" format nbdj.img --blocks $blocks --area 64M >/dev/null
 for it in nbdkit cache qemu; do truncate -s $((blocks * 4096)) $it.img; done
 
-# command NAME: how it serves its image at the socket NAME.sock
+# command_of NAME: the command that serves its image at the socket NAME.sock
 command_of() {
     case $1 in
     layout*) echo "$NBDJ serve $1.img --unix $1.sock --workers 16 --frames 16384" ;;
@@ -92,19 +94,19 @@ row() {
 stalls() { echo "| $1 | $(part nbdj.stall "$2") | $(part nbdkit.stall "$2") | $(part cache.stall "$2") | $(part qemu.stall "$2") |"; }
 waits() { echo "| $1 | $(part layout1.waits "$2") | $(part layout2.waits "$2") | $(part nbdkit.waits "$2") | $(part cache.waits "$2") | $(part qemu.waits "$2") |"; }
 
-# Each server has its whole life in a round, so that none shares the machine with another.
+# Servers run one after another, so that none shares the machine with another.
 measure_servers() {
     round=0
     while [ $round -lt "$rounds" ]; do
         for it in $servers; do
             serve $it
             fill $it $blocks
-            # (what the one has left unstored the next would pay for)
+            # (otherwise the next measurement would have to wait for what this one left in the page cache)
             for row in 'sequential 1' 'flushed 1' 'flushed 4' 'flushed 8' 'fua 1' 'fua 4' 'fua 8' 'write 1' 'write 4' 'mixed 4' 'write-512 1' 'write-512 4' 'read-512 1' 'read-512 4'; do
                 measure $it $row $blocks >>"$it.$(echo "$row" | tr ' ' .)"
                 sync
             done
-            # Reads that hit: of blocks that were written last, fewer than the frames.
+            # Reads that hit: of the blocks written last, which are fewer than the frames.
             fill $it $hot
             for row in 'read 1' 'read 4' 'read-long 1' 'read-64k 1' 'write-512 1' 'write-512 4' 'read-512 1' 'read-512 4'; do measure $it $row $hot >>"$it.hit.$(echo "$row" | tr ' ' .)"; done
             for row in 'read-long 1' 'read-64k 1'; do measure $it $row $blocks >>"$it.$(echo "$row" | tr ' ' .)"; done
@@ -147,7 +149,7 @@ measure_servers() {
     row 'READ 1 MiB in sequence that misses' 'MiB/s' 0.9 read-long.1
     row 'READ 64 KiB in sequence that hits' '1/s' 0.9 hit.read-64k.1
     row 'READ 64 KiB in sequence that misses' '1/s' 0.9 read-64k.1
-    # (the old bytes of a block that was written last are in memory, and those of one at random anywhere are read)
+    # (a write of part of a block reads its old bytes, unless they are in memory)
     for connections in 1 4; do
         many=$([ $connections -eq 1 ] && echo '1 connection' || echo '4 connections')
         row "WRITE 512 bytes at random over blocks in memory, $many" '1/s' '' hit.write-512.$connections
@@ -169,7 +171,7 @@ measure_servers() {
     stalls 'a READ of 4 KiB, p99, us' 4
 }
 
-# Syncs that take long. Each server has its life for each time of a sync, in each round.
+# Slow syncs. Each server is started again for each time of a sync, in each round.
 measure_syncs() {
     for it in nbdj nbdkit; do
         serve $it
@@ -216,7 +218,7 @@ measure_syncs() {
     done
 }
 
-# A journal that fills all the time: new images, all of which is written at random.
+# A journal that is always full: new images, written at random.
 measure_filling() {
     filling=${FILLING_SECONDS:-60}
     for layout in 1 2; do "$NBDJ" format layout$layout.img --blocks $blocks --area 16M --layout $layout >/dev/null; done
@@ -243,7 +245,7 @@ measure_filling() {
     done
 }
 
-# Memory that is limited: what a server has written then has to go to the disk.
+# Limited memory, so that writes have to go to the disk.
 measure_sustained() {
     sustained=${SUSTAINED_SECONDS:-120} large_blocks=524288 group=/sys/fs/cgroup/memory/nbdj-bench
     if ! mkdir -p "$group" 2>/dev/null || ! echo 268435456 >"$group/memory.limit_in_bytes"; then

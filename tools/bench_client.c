@@ -1,33 +1,32 @@
-/* A client over libnbd that measures a server; tools/bench.sh runs it.
+/* A client over libnbd that measures a server; tools/bench.sh runs it. Times are in microseconds, rates in answers a second, and blocks have
+ * 4,096 bytes; requests go to the first BLOCKS blocks.
  *
  * bench_client run URI KIND CONNECTIONS SECONDS BLOCKS
- *     Sends requests over so many connections, a thread for each, for so many seconds, to the first so many blocks of 4,096 bytes, and
- *     prints how many were answered a second; requests of 1 MiB are counted in MiB. Kinds:
- *         write      4 KiB at random places, 16 on their way on each connection
- *         flushed    4 KiB at random places, each followed by a FLUSH, which is waited for
- *         fua        4 KiB at random places with FUA, each waited for
- *         sequential all blocks once, 1 MiB one behind the other, 4 on their way, and a FLUSH at the end, which counts: however long
- *         read       4 KiB at random places, 16 on their way
- *         read-long  1 MiB one behind the other, 4 on their way
- *         read-64k 64 KiB one behind the other, 4 on their way
- *         mixed      4 KiB at random places, 7 of 10 read and the others written, 16 on their way
- *         write-512  512 bytes at random places, 16 on their way
+ *     Sends requests over CONNECTIONS connections, each with a thread, for SECONDS seconds, and prints their rate; requests of 1 MiB are counted in
+ *     MiB. Kinds:
+ *         write      4 KiB at random places, 16 in flight on each connection
+ *         flushed    4 KiB at random places, each followed by a FLUSH, one after another
+ *         fua        4 KiB at random places with FUA, one after another
+ *         sequential all blocks once in order, 1 MiB at a time, 4 in flight, and a FLUSH at the end, which counts: however long it takes
+ *         read       4 KiB at random places, 16 in flight
+ *         read-long  1 MiB at a time in order, 4 in flight
+ *         read-64k   64 KiB at a time in order, 4 in flight
+ *         mixed      4 KiB at random places, 7 of 10 read and the others written, 16 in flight
+ *         write-512  512 bytes at random places, 16 in flight
  *         read-512   the same, read
  * bench_client fill URI BLOCKS [PIECE]
- *     Writes those blocks, PIECE at a time (256 unless given), and a FLUSH.
+ *     Writes these blocks, PIECE at a time (256 unless given), and flushes.
  * bench_client beside URI LENGTH FLUSHERS SECONDS BLOCKS
- *     Sends READs of so many bytes, at random places in the first so many blocks, one after another, while as many connections as
- *     FLUSHERS says write and flush as `flushed` does. Prints how many READs were answered a second, the median of their times, the
- *     99th of a hundred and the longest, in microseconds, and how many FLUSHes were answered a second.
+ *     Sends READs of LENGTH bytes at random places, one after another, while FLUSHERS connections write and flush as `flushed` does. Prints the rate
+ *     of READs, the median, 99th percentile and longest of their times, and the rate of FLUSHes.
  * bench_client stall URI SECONDS BLOCKS
- *     4 connections write as `write` does, one writes and flushes as `flushed` does, and one reads 4 KiB, one after another. Prints how many
- *     WRITEs were answered a second, the longest of them, the 99th of a hundred of a write and FLUSH, and of a READ, in microseconds.
+ *     4 connections write as `write` does, one writes and flushes as `flushed` does, and one reads 4 KiB, one after another. Prints the rate of
+ *     WRITEs, the longest time of one, and the 99th percentiles of a write with FLUSH and of a READ.
  * bench_client waits URI SECONDS BLOCKS
- *     4 connections write as `write` does, and one writes and flushes as `flushed` does. Prints how many WRITEs were answered a second, and
- *     of them, and then of a write and FLUSH, the median, the 99th of a hundred, the 999th of a thousand and the longest, in microseconds.
+ *     4 connections write as `write` does, and one writes and flushes as `flushed` does. Prints the rate of WRITEs, and then of WRITEs and of writes
+ *     with FLUSH the median, the 99th percentile, the 999th of a thousand and the longest.
  * bench_client start SOCKET COMMAND...
- *     Runs the server of a Unix socket, and prints after how many milliseconds it greeted a client, and how many bytes were resident
- *     then; kills it.
+ *     Runs the server of a Unix socket, prints after how many milliseconds it greeted a client and how many bytes were resident then, and kills it.
  */
 #include <errno.h>
 #include <libnbd.h>
@@ -88,7 +87,7 @@ struct connection {
     uint64_t random, next, blocks, answered, number;
     double end, longest;
     double *times; /* of each write and FLUSH, or none are kept */
-    double *taken; /* of each request that was on its way with others, or none are kept */
+    double *taken; /* of each request that was in flight with others, or none are kept */
     struct slot slots[MOST_DEPTH];
 };
 
@@ -111,13 +110,13 @@ static uint64_t any(struct connection *it) {
     return it->random;
 }
 
-/* Data that no server can take for those of another write: the number stands in each block. */
+/* Data that differ from those of every other write: each block has its number. */
 static void mark(struct connection *it, char *data) {
     it->number++;
     for (size_t at = 0; at < length_of(it->kind); at += BLOCK) memcpy(data + at, &it->number, sizeof it->number);
 }
 
-/* How many requests go into the blocks one behind the other. */
+/* How many requests fit into the blocks one after another. */
 static uint64_t places(struct connection *it) { return it->blocks * SECTORS / it->kind->sectors; }
 
 static uint64_t place(struct connection *it) {
@@ -158,7 +157,7 @@ static int goes_on(struct connection *it) {
     return it->kind->is_one_pass ? it->next < places(it) : now() < it->end;
 }
 
-/* Keeps as many requests on their way as the kind says, and waits for the last ones. */
+/* Keeps as many requests in flight as the kind says, and waits for the last ones. */
 static void ask_many(struct connection *it) {
     for (;;) {
         unsigned busy = 0;
@@ -212,6 +211,12 @@ static void prepare(struct connection *it, const char *uri, const struct kind *k
     }
 }
 
+/* Sends requests in a thread of its own until the end. */
+static void begin(struct connection *it, double end) {
+    it->end = end;
+    if (pthread_create(&it->thread, NULL, serve_thread, it)) fail("a thread");
+}
+
 static void finish(struct connection *it) {
     if (nbd_shutdown(it->nbd, 0) == -1) fail("shutdown");
     nbd_close(it->nbd);
@@ -230,10 +235,7 @@ static void run(const char *uri, const char *name, unsigned count, double second
     }
     for (unsigned k = 0; k < count; k++) prepare(&connections[k], uri, kind, k, blocks);
     double begun = now();
-    for (unsigned k = 0; k < count; k++) {
-        connections[k].end = begun + seconds;
-        if (pthread_create(&connections[k].thread, NULL, serve_thread, &connections[k])) fail("a thread");
-    }
+    for (unsigned k = 0; k < count; k++) begin(&connections[k], begun + seconds);
     uint64_t answered = 0;
     for (unsigned k = 0; k < count; k++) {
         pthread_join(connections[k].thread, NULL);
@@ -274,10 +276,7 @@ static void beside(const char *uri, unsigned length, unsigned flushers, double s
     for (unsigned k = 0; k < flushers; k++) prepare(&connections[k], uri, &kinds[1], k, blocks);
     prepare(&reader, uri, &kinds[4], MOST_CONNECTIONS, blocks);
     double begun = now();
-    for (unsigned k = 0; k < flushers; k++) {
-        connections[k].end = begun + seconds;
-        if (pthread_create(&connections[k].thread, NULL, serve_thread, &connections[k])) fail("a thread");
-    }
+    for (unsigned k = 0; k < flushers; k++) begin(&connections[k], begun + seconds);
     for (double from = now(); from < begun + seconds && answered < MOST_TIMES; answered++) {
         uint64_t offset = any(&reader) % (blocks - length / BLOCK + 1) * BLOCK;
         if (nbd_pread(reader.nbd, data, length, offset, 0) == -1) fail("a read");
@@ -314,12 +313,8 @@ static void stall(const char *uri, double seconds, uint64_t blocks) {
     flusher.times = malloc(MOST_TIMES * sizeof *times);
     if (!times || !flusher.times) fail("memory");
     double begun = now();
-    flusher.end = begun + seconds;
-    if (pthread_create(&flusher.thread, NULL, serve_thread, &flusher)) fail("a thread");
-    for (unsigned k = 0; k < WRITERS; k++) {
-        connections[k].end = begun + seconds;
-        if (pthread_create(&connections[k].thread, NULL, serve_thread, &connections[k])) fail("a thread");
-    }
+    begin(&flusher, begun + seconds);
+    for (unsigned k = 0; k < WRITERS; k++) begin(&connections[k], begun + seconds);
     for (double from = now(); from < begun + seconds && read < MOST_TIMES; read++) {
         if (nbd_pread(reader.nbd, data, BLOCK, any(&reader) % blocks * BLOCK, 0) == -1) fail("a read");
         double to = now();
@@ -363,12 +358,8 @@ static void waits(const char *uri, double seconds, uint64_t blocks) {
     flusher.times = malloc(MOST_TIMES * sizeof *times);
     if (!flusher.times) fail("memory");
     double begun = now();
-    flusher.end = begun + seconds;
-    if (pthread_create(&flusher.thread, NULL, serve_thread, &flusher)) fail("a thread");
-    for (unsigned k = 0; k < WRITERS; k++) {
-        connections[k].end = begun + seconds;
-        if (pthread_create(&connections[k].thread, NULL, serve_thread, &connections[k])) fail("a thread");
-    }
+    begin(&flusher, begun + seconds);
+    for (unsigned k = 0; k < WRITERS; k++) begin(&connections[k], begun + seconds);
     for (unsigned k = 0; k < WRITERS; k++) {
         pthread_join(connections[k].thread, NULL);
         size_t kept = connections[k].answered < MOST_TIMES ? connections[k].answered : MOST_TIMES;
@@ -397,7 +388,7 @@ static long resident(pid_t pid) {
     return found * 1024;
 }
 
-/* Whether the server has greeted: the 18 bytes that each server of the protocol begins with. */
+/* Whether the server has sent the 18 bytes of its greeting. */
 static int is_greeted(const char *path) {
     struct sockaddr_un address = {.sun_family = AF_UNIX};
     char greeting[18];

@@ -1,6 +1,6 @@
-# Bytes on the shell's streams, with POSIX tools alone. To be read by '.'.
+# Bytes on the shell's streams, with POSIX tools only. To be read by '.'.
 
-# bytes HEX: the bytes that the digits spell, blanks between them left out
+# bytes HEX: the bytes of these hexadecimal digits; blanks between them are ignored
 bytes() {
     printf '%b' "$(printf '%s' "$1" | tr -d ' ' | sed 's/../&\n/g' | while read -r digits; do
         [ -z "$digits" ] || printf '\\0%o' "0x$digits"
@@ -10,7 +10,7 @@ bytes() {
 # hex: standard input as hexadecimal digits
 hex() { od -An -v -tx1 | tr -d ' \n'; }
 
-# filled COUNT CHARACTER: so many bytes
+# filled COUNT CHARACTER: a character COUNT times
 filled() { head -c "$1" /dev/zero | tr '\000' "$2"; }
 
 # request FLAGS TYPE COOKIE OFFSET LENGTH: the head of a request, all numbers but the first in decimal
@@ -21,5 +21,5 @@ request() {
 # reply COOKIE ERROR: a simple reply as hexadecimal digits, both numbers in decimal
 reply() { printf '67446698%08x%016x' "$2" "$1"; }
 
-# part FILE OFFSET COUNT: bytes of a file as hexadecimal digits
+# part FILE OFFSET COUNT: a part of a file as hexadecimal digits
 part() { dd if="$1" bs=1 skip="$2" count="$3" 2>/dev/null | hex; }

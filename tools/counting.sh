@@ -1,4 +1,4 @@
-# Runs checks one after another, tells how far they are, and counts. To be read by '.', at the top of the repository.
+# Runs checks one after another, shows progress, and counts. To be read by '.', at the top of the repository.
 mkdir -p out
 counting=$(mktemp -d) || exit 1
 trap 'rm -rf "$counting"' EXIT
@@ -18,7 +18,7 @@ count() {
     fi
 }
 
-# outcome LINE STATUS: what is to be counted of a run that ended so; one that counted no failure and has another status died at its end
+# outcome LINE STATUS: what to count for a run with this last line; one without failures whose status isn't 0 died at its end
 outcome() {
     case $1 in
     *' passed, 0 failed') [ "$2" -eq 0 ] && echo "$1" || echo "$1, but status $2" ;;
@@ -26,7 +26,7 @@ outcome() {
     esac
 }
 
-# run_check NAME WORD..: runs a check whose last line is 'N passed, M failed', or a demo that counts as one
+# run_check NAME WORD..: runs a check whose last line is 'N passed, M failed'; a demo counts as one check
 run_check() {
     name=$1
     shift
@@ -39,8 +39,8 @@ run_check() {
         [ "$status" -eq 0 ] && last='1 passed, 0 failed' || last="status $status"
     fi
     last=$(outcome "$last" "$status")
-    # What was counted stands in the line below; the rest is what failed or was skipped.
-    if [ "$status" -eq 0 ]; then grep -E '^(skipped: |not compared: |with --long alone: |of the refusals |[0-9]+ (runs|of) )' "$counting/said"; else cat "$counting/said"; fi
+    # Of a check that passes, only these lines are shown.
+    if [ "$status" -eq 0 ]; then grep -E '^(skipped: |not compared: |only with --long: |of the refusals |[0-9]+ (runs|of) )' "$counting/said"; else cat "$counting/said"; fi
     forbidden=$(skips_forbidden)
     [ -z "$forbidden" ] || printf 'FAILED: skipped, which CI does not allow:\n%s\n' "$forbidden"
     [ -z "$forbidden" ] || failed=$((failed + $(printf '%s\n' "$forbidden" | wc -l)))
@@ -49,12 +49,12 @@ run_check() {
     echo "   $name: $last, $(($(date +%s) - began)) s"
 }
 
-# skips_forbidden: what the last check skipped and may not, where CI=true
+# skips_forbidden: what the last check skipped and must not with CI=true
 skips_forbidden() {
     [ "${CI:-}" != true ] || grep '^skipped: ' "$counting/said" | grep -v "the kernel's device"
 }
 
-# the_sum: what was counted, and the status
+# the_sum: prints what was counted; the status says whether a check failed
 the_sum() {
     echo "$memory_refused runs with memory refused"
     echo "$passed passed, $failed failed"

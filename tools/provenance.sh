@@ -1,7 +1,7 @@
 # The sources that the program's proof rests on, and what dist/PROVENANCE records of them. To be read by '.', with the top of the repository
-# in `here`. It uses the shell and coreutils alone, so that ./demo needs nothing else.
+# in `here`. It uses only the shell and coreutils, so that ./demo needs nothing else.
 
-# program_crates: the crates of crates.txt that the program stands on, and the program's own
+# program_crates: the program's crate, and the crates of crates.txt that it depends on
 program_crates() {
     listed=' '
     while read -r name below; do
@@ -27,7 +27,7 @@ program_crates() {
     printf '%s\n' $found
 }
 
-# source_files FOLDER: the .rt and .antt files of a folder and of those in it
+# source_files FOLDER: the .rt and .antt files in a folder and its subfolders
 source_files() {
     for entry in "$1"/*; do
         if [ -d "$entry" ]; then
@@ -56,13 +56,13 @@ sources_digest() {
 digest() { sha256sum -- "${1:--}" | cut -d ' ' -f 1; }
 
 # provenance: the text of a PROVENANCE with the values of version, sources, kit, program and archive. Its last line has the digest of the
-# others, so that a change of any byte shows.
+# others, so that every changed byte is noticed.
 provenance() {
     lines=$(printf 'version %s\nsources %s\nkit %s\nprogram %s\narchive %s' "$version" "$sources" "$kit" "$program" "$archive")
     printf '%s\nrecord %s\n' "$lines" "$(printf '%s\n' "$lines" | digest)"
 }
 
-# read_provenance: sets these five by dist/PROVENANCE; it fails if there is none, or not one of these very lines
+# read_provenance: sets these five from dist/PROVENANCE; fails if there is none, or if it has other lines
 read_provenance() {
     version='' sources='' kit='' program='' archive=''
     [ -f "$here/dist/PROVENANCE" ] || return 1
@@ -79,16 +79,16 @@ read_provenance() {
 # archive_name: the name of the archive of this version
 archive_name() { echo "nbdj-$version-x86_64-linux.tar.xz"; }
 
-# A line `PROGRAM SOURCES KIT` of out/proved says that the program with the one digest was proved from the sources with the other, by that kit.
+# A line `PROGRAM SOURCES KIT` of out/proved says that the program with the first digest was proved from the sources with the second, by that kit.
 
-# note_proved SOURCES: notes that the program in crates/nbdj/out was proved from sources with this digest; it fails if they have changed since
+# note_proved SOURCES: notes that the program in crates/nbdj/out was proved from sources with this digest; fails if they have changed since
 note_proved() {
     [ "$1" = "$(sources_digest)" ] || return 1
     mkdir -p "$here/out"
     echo "$(digest "$here/crates/nbdj/out/nbdj") $1 $(rt version 2>/dev/null || echo 'kit unknown')" >"$here/out/proved"
 }
 
-# is_proved: whether the program in crates/nbdj/out is one that was proved from the sources as they are
+# is_proved: whether the program in crates/nbdj/out was proved from the present sources
 is_proved() {
     [ -f "$here/out/proved" ] && [ -x "$here/crates/nbdj/out/nbdj" ] &&
         [ "$(cut -d ' ' -f 1,2 "$here/out/proved")" = "$(digest "$here/crates/nbdj/out/nbdj") $(sources_digest)" ]

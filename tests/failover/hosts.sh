@@ -1,5 +1,5 @@
-# Hosts of a trial, to be read by '.': each is a network, mount, process, host name and IPC namespace of its own, on a bridge in a namespace
-# beside them, with its files below $run/NAME. No address, mount or service of the machine changes.
+# Hosts of a trial, to be read by '.': each has its own namespaces for network, mounts, processes, host name and IPC, and its files in $run/NAME; a
+# bridge in one more namespace connects them. No address, mount or service of the machine changes.
 
 # say TEXT..: a line with its time
 say() { printf '%s %s\n' "$(date -u +%H:%M:%S.%3N)" "$*"; }
@@ -7,7 +7,7 @@ now() { date +%s.%N; }
 # since TIME: the seconds since then
 since() { awk -v from="$1" -v to="$(now)" 'BEGIN { printf "%.2f", to - from }'; }
 
-# child_of PID: the process that this one has started
+# child_of PID: waits for a child of this process, and prints its number
 child_of() {
     local _
     for _ in $(seq 100); do
@@ -16,7 +16,7 @@ child_of() {
     done
 }
 
-# switch_up: the bridge to which each host is connected
+# switch_up: makes the bridge
 switch_up() {
     unshare --net --fork --kill-child sleep infinity </dev/null >/dev/null 2>&1 &
     child_of $! >"$run/switch.pid"
@@ -56,7 +56,7 @@ host_in() {
 host_cut() { nsenter -t "$(cat "$run/switch.pid")" -n ip link set "p$1" nomaster; }
 host_heal() { nsenter -t "$(cat "$run/switch.pid")" -n ip link set "p$1" master br0; }
 
-# host_off NAME: power off. First nothing of it reaches the others, no end of a connection either, then all its processes end at once.
+# host_off NAME: power off. First the host is cut off, so that no connection is closed; then all its processes are killed.
 host_off() {
     host_cut "$1"
     kill -9 "$(cat "$run/$1/pid")"
@@ -65,13 +65,13 @@ host_off() {
     nsenter -t "$(cat "$run/switch.pid")" -n ip link del "p$1" 2>/dev/null
 }
 
-# kill_in NAME PROGRAM: SIGKILL of a host's processes of this program
+# kill_in NAME PROGRAM: kills the processes of this program on a host
 kill_in() {
     local pid
     for pid in $(host_in "$1" pidof -x "$2"); do host_in "$1" kill -9 "$pid"; done
 }
 
-# hosts_down: all of them, and the bridge
+# hosts_down: ends all hosts, and the bridge
 hosts_down() {
     local own
     for own in "$run"/*/; do
@@ -107,7 +107,7 @@ volume_up() {
     for host in a b c; do volume_mount "$host"; done
 }
 
-# bricks_up: waits until all three replicas are there
+# bricks_up: waits until all three replicas are online
 bricks_up() {
     for _ in $(seq 200); do
         [ "$(host_in a gluster volume status vol detail 2>/dev/null | grep -c '^Online *: Y')" = 3 ] && return

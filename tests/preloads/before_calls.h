@@ -1,5 +1,4 @@
-/* For a preload that does something before each call by which a program reads or writes at a place of a file, or brings its data to the drive.
- * The preload defines what: */
+/* For a preload that does something before each read, write and sync of a file at an offset. It defines what: */
 #include <dlfcn.h>
 #include <unistd.h>
 

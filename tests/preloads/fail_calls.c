@@ -1,9 +1,9 @@
-/* Notes the calls by which a program writes at a place of a file and brings its data to the drive, and can let one of them fail.
- * Preloaded into a program, it adds a line to the file CALLS_LOG for each: 'pwrite OFFSET COUNT' or 'fdatasync'. Where FAIL_CALL is
- * 'pwrite N' or 'fdatasync N', the N-th such call, counted from 1, does nothing and answers EIO; its line ends in ' failed'. Where it is
- * 'flock N' or 'ftruncate N', that call answers ENOLCK or EFBIG, as where a file system has no locks, or no room for a length; of these
- * calls no line tells. Where BAD_BYTE is a number, each 'pread' that touches the byte at this offset answers EIO, as of a sector that can't
- * be read; of these no line tells either. */
+/* A preload that notes each `pwrite` and `fdatasync`, and can make calls fail.
+ *
+ * For each it adds a line to the file CALLS_LOG: 'pwrite OFFSET COUNT' or 'fdatasync'. If FAIL_CALL is 'pwrite N' or 'fdatasync N', the N-th such
+ * call, counted from 1, does nothing and fails with EIO; its line ends in ' failed'. If it is 'flock N' or 'ftruncate N', that call fails with
+ * ENOLCK or EFBIG, as on a file system without locks, or for a length that is too large; these calls aren't noted. If BAD_BYTE is a number, each
+ * `pread` that touches the byte at this offset fails with EIO, like a sector that can't be read; these aren't noted either. */
 #define _GNU_SOURCE
 #include <dlfcn.h>
 #include <errno.h>

@@ -1,6 +1,5 @@
-/* Refuses one call for memory. Preloaded into a program, it lets all calls through but the one whose number REFUSE_AT says, counted
- * from 1, which answers that there is no memory; where REFUSE_ON is set, so do all calls behind it. That the call was met is told by
- * making the file REFUSE_MET. */
+/* A preload that refuses calls for memory: the one with the number REFUSE_AT, counted from 1, and with REFUSE_ON all later ones too. If there
+ * was such a call, it makes the file REFUSE_MET. */
 #define _GNU_SOURCE
 #include <dlfcn.h>
 #include <errno.h>
@@ -21,7 +20,7 @@ static unsigned long calls;
 static int refuse_on;
 static int ready;
 
-/* What dlsym itself asks for before the calls behind are known. */
+/* What dlsym itself asks for before the real functions are known. */
 static char early[4096];
 static size_t early_used;
 

@@ -1,6 +1,5 @@
-/* A preload that makes each sync of a file slow, as a drive's is: `fdatasync` and `fsync` sleep for SLOW_SYNC_US microseconds (0 where it
- * isn't set) and then do their work, `pwrite` for SLOW_WRITE_US. The sleep holds nothing, so calls of several threads take their time beside
- * one another.
+/* A preload that makes syncs as slow as those of a disk: `fdatasync` and `fsync` sleep for SLOW_SYNC_US microseconds (by default 0) before they
+ * do their work, and `pwrite` for SLOW_WRITE_US. Calls of several threads sleep at the same time.
  *
  * cc -shared -fPIC -O2 -o slow_sync.so slow_sync.c
  * SLOW_SYNC_US=5000 LD_PRELOAD=$PWD/slow_sync.so nbdj serve ...

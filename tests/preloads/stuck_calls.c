@@ -1,6 +1,5 @@
-/* A preload that lets the calls of a device hang, and lets a lock be lost. While the file that STUCK names exists, `pwrite`, `pread`,
- * `fdatasync` and `fsync` don't begin; while the file that LOST names exists, `flock` answers EBADFD, as where a server of files has shut a
- * client out.
+/* A preload that makes device calls hang, and locks be lost. While the file STUCK exists, `pwrite`, `pread`, `fdatasync` and `fsync` don't begin;
+ * while the file LOST exists, `flock` fails with EBADFD, as if a file server had shut this client out.
  *
  * cc -shared -fPIC -O2 -o stuck_calls.so stuck_calls.c -ldl
  * STUCK=$PWD/stuck LD_PRELOAD=$PWD/stuck_calls.so nbdj serve ...

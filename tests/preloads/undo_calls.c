@@ -1,9 +1,9 @@
-/* A preload by which a power cut can be made of a kill: it keeps what each write to an image has replaced, and which writes a sync has confirmed.
+/* A preload that lets a test turn a kill into a power cut: it keeps what each write to an image has replaced, and which writes a sync has confirmed.
  *
- * Before each `pwrite` to the file UNDO_IMAGE it adds a record to the file UNDO_LOG: 'W', three more bytes, the count of bytes as 4, the offset as
- * 8 and the number of the write as 8, and the bytes that stood there, all numbers in the machine's order; where the file had no bytes they are 0.
- * Behind each `fdatasync` or `fsync` that succeeded it adds 'S', with 0 bytes and, as number, that of the last write that was over when the sync
- * began. A kill may cut the last record off; that write didn't begin then. Of a write that no sync has confirmed a power cut may keep any part.
+ * Before each `pwrite` to the file UNDO_IMAGE it adds a record to the file UNDO_LOG: 'W', three more bytes, the count of bytes (4 bytes), the offset
+ * (8) and the number of the write (8), and the old bytes, or zeroes past the end of the file; numbers are in the machine's order. After each
+ * `fdatasync` or `fsync` that succeeded it adds 'S', with 0 bytes and the number of the last write that had ended when the sync began. A kill may
+ * cut off the last record; then its write didn't begin. A power cut may keep any part of a write that no sync has confirmed.
  *
  * cc -shared -fPIC -O2 -pthread -o undo_calls.so undo_calls.c -ldl
  * UNDO_IMAGE=$PWD/disk.img UNDO_LOG=$PWD/log LD_PRELOAD=$PWD/undo_calls.so nbdj serve disk.img ...
