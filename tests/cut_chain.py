@@ -203,9 +203,10 @@ def await_socket(path, process):
 
 class Chain:
     """A file system over a server, in one folder. `serve` returns the words that start a server of an image at a socket. The image is a file on a
-    disk that can be cut, or a plain one."""
+    disk that can be cut, or a plain one. Without `has_flushes` the kernel sends none, as Linux's own NBD client does if the server doesn't offer
+    FLUSH; the loop device over nbdfuse can't learn that."""
 
-    def __init__(self, folder, disk, serve, options, image=None, environment=None):
+    def __init__(self, folder, disk, serve, options, image=None, environment=None, has_flushes=True):
         os.makedirs(folder, exist_ok=True)
         self.folder, self.disk, self.mount = folder, disk, f"{folder}/mount"
         if disk:
@@ -220,14 +221,14 @@ class Chain:
         self.front = mount_export(f"nbd+unix:///?socket={path}", f"{folder}/front")
         self.loop = run(["losetup", "-f", "--show", "--direct-io=on", f"{folder}/front/nbd"]).strip()
         # (a loop device keeps this when it gets another file)
-        self.keep_cache()
+        self.set_cache("write back" if has_flushes else "write through")
         os.makedirs(self.mount, exist_ok=True)
         run(["mount", "-t", "ext4", "-o", options, self.loop, self.mount])
 
-    def keep_cache(self):
-        """Makes the kernel send flushes."""
+    def set_cache(self, kind):
+        """Makes the kernel send flushes to a device that is `write back`, and none to one that is `write through`."""
         with open(f"/sys/block/{os.path.basename(self.loop)}/queue/write_cache", "w", encoding="ascii") as file:
-            file.write("write back")
+            file.write(kind)
 
     def cut(self):
         """Stops server and disk at one moment; that moment. The server never runs again."""
