@@ -117,7 +117,11 @@ impl<B: ExportName, D: Disk, H: ReadBeside, T: Trust> Export<B, D, H, T> {
         progress: &mut Progress,
     ) -> bool {
         points.reach(Point::Step);
-        let hold = self.take_step(rt, &mut self.engine.lock(rt));
+        let turn = self.signals.turn.lock(rt);
+        let mut engine = self.engine.lock(rt);
+        drop(turn);
+        let hold = self.take_step(rt, &mut engine);
+        drop(engine);
         if !matches!(hold, Hold::NoMemory) && !progress.retries.are_none() {
             progress.retries = Retries::new();
             self.queue.lock(rt).set_cannot_copy(false);

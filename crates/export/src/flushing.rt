@@ -191,7 +191,9 @@ impl<B: ExportName, D: Disk, H: ReadBeside, T: Trust> Export<B, D, H, T> {
         points: &mut G,
         group: SealedGroup<B>,
     ) -> Result<(), SealedGroup<B>> {
+        let turn = self.signals.turn.lock(rt);
         let mut engine = self.engine.lock(rt);
+        drop(turn);
         let begin = Instant::now(rt).ok();
         points.reach(Point::Append);
         match engine.append(&self.board, group) {

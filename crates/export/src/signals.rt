@@ -1,7 +1,7 @@
 //! What the threads of an export tell one another.
 
-use std::sync::Condvar;
 use std::sync::atomic::{AtomicBool, Ordering};
+use std::sync::{Condvar, Mutex};
 
 /// Where threads wait, and are told to look again.
 pub(crate) struct Signals {
@@ -13,6 +13,9 @@ pub(crate) struct Signals {
     pub checkpoint_due: Condvar,
     // Whether writers are to be slowed down. It saves them the order's lock if they aren't.
     is_tight: AtomicBool,
+    /// Held while a thread waits for the keeper's lock. A thread that lets that lock go and wants it again at once then comes after those
+    /// that wait for it.
+    pub turn: Mutex<()>,
 }
 
 impl Drop for Signals {
@@ -22,6 +25,7 @@ impl Drop for Signals {
             work: _,
             checkpoint_due: _,
             is_tight: _,
+            turn: _,
         } = self;
     }
 }
@@ -33,6 +37,7 @@ impl Signals {
             work: Condvar::new(),
             checkpoint_due: Condvar::new(),
             is_tight: AtomicBool::new(false),
+            turn: Mutex::new(()),
         }
     }
 

@@ -404,7 +404,9 @@ impl<B: ExportName, D: Disk, H: ReadBeside, T: Trust> Export<B, D, H, T> {
         ensures fits { FitsServed terms.geometry terms.flags request result }
         ensures tells { Trusting B.opening B.image B.vouches B.trusted (ServesImage (apply_all pass.new.history B.image) request.head result) }
     {
+        let turn = self.signals.turn.lock(rt);
         let mut engine = self.engine.lock(rt);
+        drop(turn);
         let mut queue = self.queue.lock(rt);
         let served = engine.serve(&mut queue, self.alloc, request, &self.board, pass, terms);
         if queue.stopped() {
