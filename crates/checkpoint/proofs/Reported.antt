@@ -25,7 +25,7 @@ use Rattle.checkpoint.specs.inner.Opening.{IsOpened}
 use Rattle.checkpoint.specs.Report.{IsReport, blocks_of}
 use Rattle.checkpoint.specs.inner.Report.{AreOf, AreStatesBehind, AreStatesTurned}
 use Rattle.checkpoint.specs.Keeper.{AreSized}
-use Rattle.checkpoint.proofs.Opened.{last_number, opened_image, opened_stands}
+use Rattle.checkpoint.proofs.OpeningKeepsImage.{last_number, opened_image, opened_stands}
 use Rattle.journal_format.specs.declared.touch.Touch.{Touch}
 use Rattle.journal_format.specs.declared.touch.Touch.TheVariants.{Put, Clear}
 use Rattle.journal_format.specs.Spelling.{StoredGroup}

@@ -173,12 +173,12 @@ fn read_areas<D: Disk>(
     // The number after 2^64 - 1 is 0: no number is left.
     let mut next = header.base.wrapping_add(1);
     for place in 0..header.in_front {
-        let index = regions.area_behind(header.first_area, place);
+        let index = regions.area_after(header.first_area, place);
         let plan = read_plan(alloc, disk, geometry, index, next)?;
         next = plan.next();
         plans.push(plan).map_err(AllocError::from)?;
     }
-    let last = regions.area_behind(header.first_area, header.in_front);
+    let last = regions.area_after(header.first_area, header.in_front);
     let area = read_area(alloc, disk, geometry, last, next)?;
     Ok((plans, area))
 }

@@ -98,16 +98,16 @@ impl<D: Disk> Keeper<D> {
         ensures headers { D.honest self.old.disk → (image : Image) (number : ℕ) → Keeps self.old (D.state self.old.disk) image number
             → HeadersFollowUpTo D.state self.old.geometry self.old.generation (length self.old.turned + headers_at self.old.used) (D.state self.old.disk) (D.state self.new.disk) }
     {
-        self.end_begun()?;
+        self.complete_begun()?;
         if self.is_empty() {
             return Ok(());
         }
         self.rotate()?;
-        self.end_checkpoint()
+        self.complete_checkpoint()
     }
 
     // Ends the checkpoints that are under way, one after another.
-    fn end_begun(&mut self) -> Result<(), KeeperFault>
+    fn complete_begun(&mut self) -> Result<(), KeeperFault>
         requires works { self.old.failed ≡ false }
         requires begun { IsBegun self.old.phase }
         ensures ok { OnOk result ((self.new.failed ≡ false) × (self.new.phase ≡ One) × (self.new.turned ≡ []) × (self.new.lefts ≡ [])) }
@@ -135,14 +135,14 @@ impl<D: Disk> Keeper<D> {
         ensures headers_err { D.honest self.old.disk → (image : Image) (number : ℕ) → Keeps self.old (D.state self.old.disk) image number
             → IfErr result (λ fault. HeadersFollowUpTo D.state self.old.geometry self.old.generation (length self.old.turned) (D.state self.old.disk) (D.state self.new.disk)) }
     {
-        while self.is_turning() {
-            self.end_checkpoint()?;
+        while self.has_checkpoint_begun() {
+            self.complete_checkpoint()?;
         }
         Ok(())
     }
 
     // Carries the checkpoint of the first area to its end.
-    fn end_checkpoint(&mut self) -> Result<(), KeeperFault>
+    fn complete_checkpoint(&mut self) -> Result<(), KeeperFault>
         requires works { self.old.failed ≡ false }
         requires begun { self.old.phase ≡ Copying (left_in self.old.phase) }
         ensures ok { OnOk result (self.new ≡ finished_by self.old self.new.disk self.new.memory) }
@@ -199,7 +199,7 @@ impl<D: Disk> Keeper<D> {
     }
 
     // Whether a checkpoint is under way.
-    fn is_turning(&self) -> bool
+    fn has_checkpoint_begun(&self) -> bool
         ensures turning { IsTrue result → (self.now.phase ≡ One → ⊥) × (0 < length self.now.turned) }
         ensures resting { result ≡ false → (self.now.phase ≡ One) × (self.now.turned ≡ []) × (self.now.lefts ≡ []) }
     {

@@ -10,7 +10,7 @@ use crate::fault::KeeperFault;
 use crate::keeper::Keeper;
 use crate::opening::{Opened, read_parts};
 use alloc_map::AllocMap;
-use device_image::{CopyPlan, map_behind};
+use device_image::{CopyPlan, map_after_area};
 use disk_model::Disk;
 use image_model::{Kind, Layout};
 use journal::Area;
@@ -63,7 +63,7 @@ impl<D: Disk> Keeper<D> {
             plans,
             area,
         } = read_parts(alloc, disk)?;
-        let map = states_behind(alloc, map, &plans, &area)?;
+        let map = states_after_plans(alloc, map, &plans, &area)?;
         Ok(Report {
             layout: header.geometry.layout,
             blocks: header.geometry.blocks,
@@ -78,7 +78,7 @@ impl<D: Disk> Keeper<D> {
 }
 
 // The states of the blocks after all areas in use, where this is the map before them.
-fn states_behind(
+fn states_after_plans(
     alloc: Global,
     map: AllocMap,
     plans: &Vec<CopyPlan>,
@@ -95,5 +95,5 @@ fn states_behind(
     for plan in plans {
         turned = plan.map_after(alloc, &turned)?;
     }
-    map_behind(alloc, area, blocks, &turned)
+    map_after_area(alloc, area, blocks, &turned)
 }

@@ -21,9 +21,9 @@ impl Keeper<SimDisk> {
     }
 
     /// Whether a stop of the device was met.
-    pub fn stopped(&self) -> bool
+    pub fn is_stopped(&self) -> bool
         ensures { result ≡ (plan_of self.now.disk).stopped }
     {
-        self.disk.stopped()
+        self.disk.is_stopped()
     }
 }

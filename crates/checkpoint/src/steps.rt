@@ -214,7 +214,7 @@ impl<D: Disk> Keeper<D> {
         let regions = Regions::of(&self.header.geometry);
         HeaderChange {
             in_front: self.header.in_front - 1,
-            first_area: regions.area_behind(self.header.first_area, 1),
+            first_area: regions.area_after(self.header.first_area, 1),
             map_slot: self.header.map_slot.other(),
             base,
         }
@@ -234,7 +234,7 @@ impl<D: Disk> Keeper<D> {
     {
         let geometry = self.header.geometry;
         let regions = Regions::of(&geometry);
-        let index = regions.area_behind(self.header.first_area, self.header.in_front + 1);
+        let index = regions.area_after(self.header.first_area, self.header.in_front + 1);
         Area::new(
             self.alloc,
             regions.area_from(index),

@@ -14,18 +14,18 @@ use std::alloc::{AllocError, Global};
 pub fn program<'a>(alloc: Global) -> Result<Command<'a>, AllocError>
     ensures { IfOk result (λ command. (modes : ValueParser) × (others : ValueParser) × (app_of command ≡ nbdj_app modes others)) }
 {
-    let command = joined(alloc, Ok(bare(alloc)), &FORMAT);
-    let command = joined(alloc, command, &SERVE);
-    let command = joined(alloc, command, &STATUS);
-    let command = joined(alloc, command, &PIPE);
-    let command = joined(alloc, command, &RECOVER);
-    let command = joined(alloc, command, &UPGRADE);
-    let command = joined(alloc, command, &CHECK);
-    joined(alloc, command, &REHEARSE)
+    let command = add_subcommand(alloc, Ok(new_program(alloc)), &FORMAT);
+    let command = add_subcommand(alloc, command, &SERVE);
+    let command = add_subcommand(alloc, command, &STATUS);
+    let command = add_subcommand(alloc, command, &PIPE);
+    let command = add_subcommand(alloc, command, &RECOVER);
+    let command = add_subcommand(alloc, command, &UPGRADE);
+    let command = add_subcommand(alloc, command, &CHECK);
+    add_subcommand(alloc, command, &REHEARSE)
 }
 
 // The command with a subcommand, where there is memory for it.
-fn joined<'a>(
+fn add_subcommand<'a>(
     alloc: Global,
     command: Result<Command<'a>, AllocError>,
     row: &SubcommandRow<'a>,
@@ -36,7 +36,7 @@ fn joined<'a>(
 }
 
 // The program without its subcommands.
-fn bare<'a>(alloc: Global) -> Command<'a>
+fn new_program<'a>(alloc: Global) -> Command<'a>
     ensures { app_of result ≡ bare_app }
 {
     Command::new(alloc, "nbdj")
@@ -63,7 +63,7 @@ pub struct SubcommandRow<'a> {
 pub fn subcommand<'a>(alloc: Global, row: &SubcommandRow<'a>) -> Result<Command<'a>, AllocError>
     ensures { IfOk result (λ command. app_of command ≡ app_of_row row.now) }
 {
-    let mut command = described(alloc, row);
+    let mut command = new_subcommand(alloc, row);
     for argument in row.arguments {
         command = with_argument(alloc, command, argument)?;
     }
@@ -82,7 +82,7 @@ fn with_argument<'a>(
 }
 
 // A subcommand without its arguments.
-fn described<'a>(alloc: Global, row: &SubcommandRow<'a>) -> Command<'a>
+fn new_subcommand<'a>(alloc: Global, row: &SubcommandRow<'a>) -> Command<'a>
     ensures { app_of result ≡ new_app row.now.name.now }
 {
     let command = Command::new(alloc, row.name)
@@ -136,7 +136,7 @@ pub enum Tie<'a> {
 fn argument_of<'a>(alloc: Global, row: &ArgumentRow<'a>) -> Result<Arg<'a>, AllocError>
     ensures { IfOk result (λ arg. (arg.global ≡ false) × (rule_of arg ≡ rule_of_row row.now)) }
 {
-    let argument = untied(alloc, row);
+    let argument = new_argument(alloc, row);
     match row.tie {
         Tie::None => Ok(argument),
         Tie::Excludes(other) => argument.conflicts_with(other),
@@ -148,7 +148,7 @@ fn argument_of<'a>(alloc: Global, row: &ArgumentRow<'a>) -> Result<Arg<'a>, Allo
 }
 
 // An argument without what it says of another one.
-fn untied<'a>(alloc: Global, row: &ArgumentRow<'a>) -> Arg<'a>
+fn new_argument<'a>(alloc: Global, row: &ArgumentRow<'a>) -> Arg<'a>
     ensures local { result.global ≡ false }
     ensures rule { rule_of result ≡ rule_of_form row.now.name.now row.now.form }
 {

@@ -101,7 +101,7 @@ fn format<'a>(alloc: Global, matches: &ArgMatches<'a>) -> Result<Plan<'a>, Error
     let Some(geometry) = Geometry::new(blocks, area) else {
         return Err(format_fault(alloc, "--area: the bytes of an area are a multiple of 8192"));
     };
-    match laid_out(alloc, matches, geometry)? {
+    match with_layout(alloc, matches, geometry)? {
         Some(geometry) => Ok(Plan::Format {
             path,
             geometry,
@@ -129,7 +129,7 @@ fn replaces(matches: &ArgMatches<'_>) -> bool
 
 // The same sizes in the layout that is asked for; None if its areas would be too small. If no layout is asked for, it is layout 2
 // with --size, if its areas are large enough, and layout 1 with --blocks, whose bytes are those of every nbdj.
-fn laid_out(
+fn with_layout(
     alloc: Global,
     matches: &ArgMatches<'_>,
     geometry: Geometry,

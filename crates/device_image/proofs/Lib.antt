@@ -1,4 +1,4 @@
-mod After
+mod MapAfterArea
 mod Counts
-mod Next
+mod NextCopy
 mod Told

@@ -6,4 +6,4 @@ mod laws;
 mod plan;
 
 pub use laws::{keeper_laws, stands_laws};
-pub use plan::{CopyPlan, latest_writes, map_behind};
+pub use plan::{CopyPlan, latest_writes, map_after_area};

@@ -60,7 +60,7 @@ fn kind_given(touch: LastTouch) -> Kind
 
 /// The map after an area of an image of `blocks` blocks, from the map before it. It takes memory for one map and for the
 /// last touches. Refusal 0 (no memory).
-pub fn map_behind(
+pub fn map_after_area(
     alloc: Global,
     area: &Area,
     blocks: u32,
@@ -72,11 +72,15 @@ pub fn map_behind(
     ensures { IfOk result (λ after. AreStatesAfter area.now.touched map.now after) }
 {
     let touches = latest_writes(alloc, area, blocks)?;
-    laid_over(alloc, &touches, map)
+    apply_touches(alloc, &touches, map)
 }
 
 // The map with the states that these last touches give to their blocks.
-fn laid_over(alloc: Global, touches: &LastTouches, map: &AllocMap) -> Result<AllocMap, AllocError>
+fn apply_touches(
+    alloc: Global,
+    touches: &LastTouches,
+    map: &AllocMap,
+) -> Result<AllocMap, AllocError>
     requires { length map.now ≡ touches.now.blocks }
     ensures { IfOk result (λ after. (from : ℕ) (touched : List TouchedRange) → AreLastTouches from (length map.now) touched touches.now.ranges
         → AreStatesAfter touched map.now after) }
@@ -196,6 +200,6 @@ impl CopyPlan {
         requires { length map.now ≡ self.now.first.blocks }
         ensures { IfOk result (λ after. AreStatesAfter self.now.first.touched map.now after) }
     {
-        laid_over(alloc, &self.touches, map)
+        apply_touches(alloc, &self.touches, map)
     }
 }

@@ -62,7 +62,7 @@ impl FaultPlan {
     }
 
     /// Whether a stop was met and no crash came since.
-    pub fn stopped(&self) -> bool
+    pub fn is_stopped(&self) -> bool
         ensures { result ≡ self.now.stopped }
     {
         self.stopped

@@ -90,10 +90,10 @@ impl SimDisk {
     }
 
     /// Whether a stop was met and no crash came since.
-    pub fn stopped(&self) -> bool
+    pub fn is_stopped(&self) -> bool
         ensures { result ≡ (plan_of self.now).stopped }
     {
-        self.plan.stopped()
+        self.plan.is_stopped()
     }
 
     /// Crashes the device: each unsynced byte becomes what was chosen, and all bytes are synced. The record begins anew.

@@ -17,6 +17,6 @@ abbrev pub image_found : {D : Type 0} → (D → State) → KeeperState D → Im
 image_found state keeper = stored_image (state keeper.disk).seen keeper.geometry keeper.memory.map
 
 -- The device of a keeper that has just opened it is trusted, and each read that a second handle vouches for is right.
-pub record IsTrustedWith {D H : Type 0} (state : D → State) (honest : D → Type 0) (vouches : H → SpanRead → Type 0) (keeper : KeeperState D) (beside : Option H) (image : Image) : Type 0 where
+pub record IsTrustedWith {D H : Type 0} (state : D → State) (honest : D → Type 0) (vouches : H → SpanRead → Type 0) (keeper : KeeperState D) (second_handle : Option H) (image : Image) : Type 0 where
   pub device : IsTrusted state honest keeper image
-  pub reads : (handle : H) → beside ≡ Some handle → (read : SpanRead) → vouches handle read → IsRight keeper.count image read
+  pub reads : (handle : H) → second_handle ≡ Some handle → (read : SpanRead) → vouches handle read → IsRight keeper.count image read

@@ -1,6 +1,6 @@
-use crate::beside::ReadBeside;
 use crate::export::Export;
 use crate::name::ExportName;
+use crate::second_handle::ReadUnlocked;
 use crate::shortage::Retries;
 use crate::storage_engine::{CopyStep, StorageEngine};
 use crate::sync_points::{Point, SyncPoints};
@@ -13,7 +13,7 @@ use std::time::{Duration, Instant};
 
 // What came of a hold of the keeper's lock.
 #[derive(Clone, Copy)]
-enum Hold {
+enum StepOutcome {
     // Another area was taken into use.
     Rotated,
     // A part of the first area was copied.
@@ -67,7 +67,7 @@ impl Progress {
     }
 }
 
-impl<B: ExportName, D: Disk, H: ReadBeside, T: Trust> Export<B, D, H, T> {
+impl<B: ExportName, D: Disk, H: ReadUnlocked, T: Trust> Export<B, D, H, T> {
     /// Copies the journal into the image, step by step, before it is full or no frame is left. Each step is one critical section of
     /// the keeper lock, and groups may be stored between two steps.
     ///
@@ -96,7 +96,7 @@ impl<B: ExportName, D: Disk, H: ReadBeside, T: Trust> Export<B, D, H, T> {
     // Begins a checkpoint where one is due, else waits for a while; not where there will be none.
     fn wait_for_checkpoint<R: Wait + Clock>(&self, rt: &R, progress: &mut Progress) -> bool {
         let queue = self.queue.lock(rt);
-        if queue.stopped() || queue.is_flushed() {
+        if queue.is_stopped() || queue.is_flushed() {
             return false;
         }
         if queue.is_checkpoint_due() {
@@ -122,19 +122,21 @@ impl<B: ExportName, D: Disk, H: ReadBeside, T: Trust> Export<B, D, H, T> {
         drop(turn);
         let hold = self.take_step(rt, &mut engine);
         drop(engine);
-        if !matches!(hold, Hold::NoMemory) && !progress.retries.are_none() {
+        if !matches!(hold, StepOutcome::NoMemory) && !progress.retries.are_none() {
             progress.retries = Retries::new();
             self.queue.lock(rt).set_cannot_copy(false);
         }
         match hold {
-            Hold::Rotated => {}
-            Hold::Copied(CopyStep::Blocks(more)) => {
+            StepOutcome::Rotated => {}
+            StepOutcome::Copied(CopyStep::Blocks(more)) => {
                 progress.blocks = progress.blocks.saturating_add(more);
             }
-            Hold::Copied(CopyStep::LetGo { waiting }) => progress.let_go(rt, points, waiting),
-            Hold::Idle => progress.is_copying = false,
-            Hold::NoMemory => return self.wait_to_copy(rt, points, &mut progress.retries),
-            Hold::Ended => return false,
+            StepOutcome::Copied(CopyStep::LetGo { waiting }) => progress.let_go(
+                rt, points, waiting,
+            ),
+            StepOutcome::Idle => progress.is_copying = false,
+            StepOutcome::NoMemory => return self.wait_to_copy(rt, points, &mut progress.retries),
+            StepOutcome::Ended => return false,
         }
         true
     }
@@ -156,31 +158,31 @@ impl<B: ExportName, D: Disk, H: ReadBeside, T: Trust> Export<B, D, H, T> {
         let mut queue = self.queue.lock(rt);
         queue.set_cannot_copy(true);
         self.signals.settled.notify_all();
-        !(queue.is_flushed() && (queue.stopped() || retries.are_hopeless()))
+        !(queue.is_flushed() && (queue.is_stopped() || retries.are_hopeless()))
     }
 
     // Takes the first step that there is, under the keeper's lock. Another area is taken into use where none waits to be copied, and
     // where the last one is nearly full and one is free: no write waits for a copy then. Otherwise the first that waits is copied.
-    fn take_step<R: Wait>(&self, rt: &R, engine: &mut StorageEngine<B, D>) -> Hold {
+    fn take_step<R: Wait>(&self, rt: &R, engine: &mut StorageEngine<B, D>) -> StepOutcome {
         let is_first = engine.waiting() == 0;
         if is_first || engine.is_nearly_full() || self.queue.lock(rt).is_full() {
             match engine.rotate() {
                 Ok(()) => {
                     // What didn't fit the last one is stored at once.
                     let mut queue = self.queue.lock(rt);
-                    queue.find_empty();
+                    queue.note_next_area();
                     queue.note_journal(engine.journal_use());
                     drop(queue);
                     self.signals.work.notify_one();
-                    return Hold::Rotated;
+                    return StepOutcome::Rotated;
                 }
                 // All are in use, or there is no memory for it now: the copy goes on, which frees some.
                 Err(KeeperFault::NotNow | KeeperFault::NoMemory) if !is_first => {}
                 Err(KeeperFault::NotNow) => {
                     // Nothing was stored since the last one.
-                    self.queue.lock(rt).forget_wish();
+                    self.queue.lock(rt).clear_checkpoint_request();
                     self.signals.settled.notify_all();
-                    return Hold::Idle;
+                    return StepOutcome::Idle;
                 }
                 Err(fault) => return self.refused(rt, fault),
             }
@@ -190,7 +192,7 @@ impl<B: ExportName, D: Disk, H: ReadBeside, T: Trust> Export<B, D, H, T> {
 
     // Copies a part of the first area. If the area is let go, so are the frames, in the same critical section: the order knows of a base
     // before there is another one.
-    fn copy_on<R: Wait>(&self, rt: &R, engine: &mut StorageEngine<B, D>) -> Hold {
+    fn copy_on<R: Wait>(&self, rt: &R, engine: &mut StorageEngine<B, D>) -> StepOutcome {
         let step = match engine.copy_on(&self.board) {
             Ok(step) => step,
             Err(fault) => return self.refused(rt, fault),
@@ -203,17 +205,17 @@ impl<B: ExportName, D: Disk, H: ReadBeside, T: Trust> Export<B, D, H, T> {
             self.signals.settled.notify_all();
             self.signals.notify(true, true);
         }
-        Hold::Copied(step)
+        StepOutcome::Copied(step)
     }
 
     // What comes of a step that was refused.
-    fn refused<R: Wait>(&self, rt: &R, fault: KeeperFault) -> Hold {
+    fn refused<R: Wait>(&self, rt: &R, fault: KeeperFault) -> StepOutcome {
         match fault {
-            KeeperFault::NoMemory => Hold::NoMemory,
-            KeeperFault::NumbersFull => Hold::Ended,
+            KeeperFault::NoMemory => StepOutcome::NoMemory,
+            KeeperFault::NumbersFull => StepOutcome::Ended,
             _ => {
                 self.fail(rt);
-                Hold::Ended
+                StepOutcome::Ended
             }
         }
     }

@@ -17,11 +17,11 @@ ghost use Rattle.shared_store.specs.Logs.{IsAt, IsLogOf};
 ghost use Rattle.shared_store.specs.Orders.{SpanRead, Trusting};
 ghost use Rattle.shared_store.specs.Parts.{StandsWithin};
 
-use crate::beside::ReadBeside;
 use crate::edges::MissingEdges;
 use crate::figures::{Notes, QueueFigures};
 use crate::gathering::Waiters;
 use crate::name::ExportName;
+use crate::second_handle::ReadUnlocked;
 use crate::settling::FlushInterval;
 use crate::storage_engine::{JournalUse, StorageEngine};
 use crate::throttling::{Throttle, eighths_above};
@@ -245,7 +245,7 @@ impl<B: ExportName> CommitQueue<B> {
     /// same, no command after it has touched a block that is data now and isn't in memory: if the last such command had cleared the
     /// block it would be no data, and if it had written the block its frame would be dirty until a clean. So the block is as at that
     /// base; and a checkpoint writes only the places of blocks that a command after the base writes.
-    pub(crate) fn serve_over<H: ReadBeside, T: Trust>(
+    pub(crate) fn serve_over<H: ReadUnlocked, T: Trust>(
         &mut self,
         alloc: Global,
         handle: &H,
@@ -346,7 +346,7 @@ impl<B: ExportName> CommitQueue<B> {
         ensures stopped { self.now.order.stopped ≡ true → result ≡ false }
     {
         let order = self.order.order();
-        if order.stopped() {
+        if order.is_stopped() {
             return false;
         }
         match request.head().kind {
@@ -380,8 +380,8 @@ impl<B: ExportName> CommitQueue<B> {
     }
 
     /// Whether a call of the device has failed.
-    pub(crate) fn stopped(&self) -> bool {
-        self.order.order().stopped()
+    pub(crate) fn is_stopped(&self) -> bool {
+        self.order.order().is_stopped()
     }
 
     /// Refuses commands from now on.
@@ -466,16 +466,16 @@ impl<B: ExportName> CommitQueue<B> {
     }
 
     /// A command has no room.
-    pub(crate) fn miss_room(&mut self)
+    pub(crate) fn note_no_room(&mut self)
         ensures settled { self.new.settled ≡ self.old.settled }
         ensures limit { self.new.most_pending ≡ self.old.most_pending }
     {
         self.lacks_room = true;
-        self.wish_checkpoint();
+        self.request_checkpoint();
     }
 
     /// Wants a checkpoint, which frees what is accepted by now.
-    pub(crate) fn wish_checkpoint(&mut self)
+    pub(crate) fn request_checkpoint(&mut self)
         ensures settled { self.new.settled ≡ self.old.settled }
         ensures order { self.new.order ≡ self.old.order }
         ensures limit { self.new.most_pending ≡ self.old.most_pending }
@@ -489,14 +489,14 @@ impl<B: ExportName> CommitQueue<B> {
 
     /// Wants a checkpoint if a quarter of the frames is dirty; whether it is wanted from now on. If no area waits to be copied, these
     /// were dirtied since one was last taken into use; if one does, no other comes into use because of it.
-    pub(crate) fn look_at_frames(&mut self) -> bool
+    pub(crate) fn check_dirty_frames(&mut self) -> bool
         ensures settled { self.new.settled ≡ self.old.settled }
         ensures limit { self.new.most_pending ≡ self.old.most_pending }
     {
         if self.wish.is_some() || !self.has_dirtied_many() {
             return false;
         }
-        self.wish_checkpoint();
+        self.request_checkpoint();
         true
     }
 
@@ -531,7 +531,7 @@ impl<B: ExportName> CommitQueue<B> {
         ensures settled { self.new.settled ≡ self.old.settled }
         ensures limit { self.new.most_pending ≡ self.old.most_pending }
     {
-        let is_due = self.look_at_frames();
+        let is_due = self.check_dirty_frames();
         let first = self.is_pending() && self.interval.tell_first();
         (is_due || first || self.has_much_pending(), is_due)
     }
@@ -646,7 +646,7 @@ impl<B: ExportName> CommitQueue<B> {
     {
         let order = self.order.order();
         let dirty = u64::from(order.dirty_blocks());
-        let held = order.held_blocks() as u64;
+        let held = order.cached_blocks() as u64;
         QueueFigures {
             base: self.settled.number,
             pending_commands: order.mark().saturating_sub(order.durable()),
@@ -701,7 +701,7 @@ impl<B: ExportName> CommitQueue<B> {
     {
         self.put_back(board, sealed);
         self.is_full = true;
-        self.wish_checkpoint();
+        self.request_checkpoint();
     }
 
     /// Whether a group didn't fit the area.
@@ -710,7 +710,7 @@ impl<B: ExportName> CommitQueue<B> {
     }
 
     /// Another area has been taken into use.
-    pub(crate) fn find_empty(&mut self)
+    pub(crate) fn note_next_area(&mut self)
         ensures settled { self.new.settled ≡ self.old.settled }
         ensures limit { self.new.most_pending ≡ self.old.most_pending }
     {
@@ -733,9 +733,9 @@ impl<B: ExportName> CommitQueue<B> {
         self.notes.note_journal(engine.journal_use());
         self.waiters.publish();
         if engine.is_filling() {
-            self.wish_checkpoint();
+            self.request_checkpoint();
         }
-        self.look_at_frames();
+        self.check_dirty_frames();
         self.wants_checkpoint()
     }
 
@@ -810,11 +810,11 @@ impl<B: ExportName> CommitQueue<B> {
         self.settled = NotedBase {
             number: keeper.keeper().base(),
         };
-        self.forget_wish();
+        self.clear_checkpoint_request();
     }
 
     /// The checkpoint that was wanted is done.
-    pub(crate) fn forget_wish(&mut self)
+    pub(crate) fn clear_checkpoint_request(&mut self)
         ensures settled { self.new.settled ≡ self.old.settled }
         ensures order { self.new.order ≡ self.old.order }
         ensures limit { self.new.most_pending ≡ self.old.most_pending }
@@ -822,7 +822,7 @@ impl<B: ExportName> CommitQueue<B> {
         self.lacks_room = false;
         self.wish = None;
         if self.is_full {
-            self.wish_checkpoint();
+            self.request_checkpoint();
         }
     }
 }

@@ -15,13 +15,13 @@ ghost use Rattle.marks.specs.Known.{new_pass};
 ghost use Rattle.shared_store.specs.Logs.{IsLogOf};
 ghost use Rattle.shared_store.specs.Orders.{SpanRead};
 
-use crate::beside::ReadBeside;
 use crate::buffer_pool::BufferPool;
 use crate::client_pass::ClientPass;
 use crate::commit_queue::CommitQueue;
 use crate::log_mode::LogMode;
 use crate::name::ExportName;
 use crate::retired::LastPass;
+use crate::second_handle::ReadUnlocked;
 use crate::signals::Signals;
 use crate::storage_engine::StorageEngine;
 use checkpoint::{Keeper, KeeperFault};
@@ -36,11 +36,11 @@ use std::sync::{Mutex, Wait};
 
 /// A device that was opened, and a board for it that has no name yet.
 #[derive(Drop)]
-pub struct OpenDevice<D: Disk, H: ReadBeside, T: Trust = NoLog> {
+pub struct OpenDevice<D: Disk, H: ReadUnlocked, T: Trust = NoLog> {
     pub blank: BlankBoard<T>,
     pub keeper: Keeper<D>,
     /// By which it is read with no lock held, where there is one.
-    pub beside: Option<H>,
+    pub second_handle: Option<H>,
     /// How many calls of the device had failed.
     pub failures: u64,
     pub ghost opening: { blank.opening ≡ keeper.count },
@@ -48,19 +48,19 @@ pub struct OpenDevice<D: Disk, H: ReadBeside, T: Trust = NoLog> {
     pub ghost counted: { failures ≡ D.faults keeper.disk },
 }
 
-impl<D: Disk, H: ReadBeside, T: Trust> OpenDevice<D, H, T> {
+impl<D: Disk, H: ReadUnlocked, T: Trust> OpenDevice<D, H, T> {
     /// Opens a device, which recovers it. It refuses as `Keeper::open` does, or for want of memory behind it, and hands the device
     /// back. A second handle has to be one of the same device.
     pub fn open(
         alloc: Global,
         disk: D,
-        beside: Option<H>,
+        second_handle: Option<H>,
     ) -> Result<OpenDevice<D, H, T>, (KeeperFault, D)>
         ensures extent { D.extent (disk_after (keeper_part result (λ opened. opened.keeper))) ≡ D.extent disk }
         ensures faults { let given = keeper_part result (λ opened. opened.keeper) in D.faults (disk_after given) ≡ faults_after_opening given (D.faults disk) }
         ensures honest { D.honest (disk_after (keeper_part result (λ opened. opened.keeper))) ↔ D.honest disk }
         ensures recovered { IfOk result (λ opened. IsRecovered opened.keeper) }
-        ensures beside { IfOk result (λ opened. opened.beside ≡ beside) }
+        ensures second_handle { IfOk result (λ opened. opened.second_handle ≡ second_handle) }
         ensures held { IfOk result (λ opened. D.honest opened.keeper.disk → Holds opened.keeper (D.state opened.keeper.disk) (image_found D.state opened.keeper) [] []) }
 
         // On an honest device there is a content, one that a crash at the start may leave, that is found: at `Ok` it stands
@@ -91,7 +91,7 @@ impl<D: Disk, H: ReadBeside, T: Trust> OpenDevice<D, H, T> {
             Ok(blank) => Ok(OpenDevice {
                 blank,
                 keeper,
-                beside,
+                second_handle,
                 failures,
             }),
             Err(_) => Err((KeeperFault::NoMemory, keeper.into_disk())),
@@ -102,7 +102,7 @@ impl<D: Disk, H: ReadBeside, T: Trust> OpenDevice<D, H, T> {
 /// One image that threads serve together. Each has a pass of its own.
 ///
 /// Two locks: that of the order and, taken before it, that of the keeper.
-pub struct Export<B: ExportName, D: Disk, H: ReadBeside, T: Trust = NoLog> {
+pub struct Export<B: ExportName, D: Disk, H: ReadUnlocked, T: Trust = NoLog> {
     pub(crate) alloc: Global,
     pub(crate) board: Board<B, T>,
     pub geometry: Geometry,
@@ -113,17 +113,17 @@ pub struct Export<B: ExportName, D: Disk, H: ReadBeside, T: Trust = NoLog> {
     pub(crate) engine: Mutex<StorageEngine<B, D>>,
     pub(crate) queue: Mutex<CommitQueue<B>>,
     // By which the device is read with neither lock held.
-    pub(crate) beside: Option<H>,
+    pub(crate) second_handle: Option<H>,
     // Into which it is read.
     pub(crate) buffers: Mutex<BufferPool>,
     pub(crate) signals: Signals,
     ghost sized: { geometry ≡ B.geometry },
     ghost moded: { log ≡ mode },
-    ghost vouched: { (handle : H) → beside ≡ Some handle → (read : SpanRead) → H.vouches handle read → ∥ B.vouches read ∥₁ },
+    ghost vouched: { (handle : H) → second_handle ≡ Some handle → (read : SpanRead) → H.vouches handle read → ∥ B.vouches read ∥₁ },
 }
 
 // Written out, it is proved once, and not again in each function that lets an export go.
-impl<B: ExportName, D: Disk + Drop, H: ReadBeside, T: Trust> Drop for Export<B, D, H, T> {
+impl<B: ExportName, D: Disk + Drop, H: ReadUnlocked, T: Trust> Drop for Export<B, D, H, T> {
     fn drop(self) {
         let Export {
             alloc: _,
@@ -133,14 +133,14 @@ impl<B: ExportName, D: Disk + Drop, H: ReadBeside, T: Trust> Drop for Export<B, 
             log: _,
             engine: _,
             queue: _,
-            beside: _,
+            second_handle: _,
             buffers: _,
             signals: _,
         } = self;
     }
 }
 
-impl<B: ExportName, D: Disk, H: ReadBeside, T: Trust> Export<B, D, H, T> {
+impl<B: ExportName, D: Disk, H: ReadUnlocked, T: Trust> Export<B, D, H, T> {
     /// An export over a device that was opened, under its name, which is picked where this is called, with `frames` frames for
     /// blocks, a client's pass for each of `workers` workers, and one for its end. If the board keeps a log it is one of this mode, image and
     /// device. A refusal for memory hands the device back.
@@ -157,7 +157,7 @@ impl<B: ExportName, D: Disk, H: ReadBeside, T: Trust> Export<B, D, H, T> {
         requires image { device.keeper.geometry.blocks ≡ B.image.blocks }
         requires trusted { B.trusted → IsTrusted D.state D.honest device.keeper B.image }
         requires start { B.trusted → LeavesOnly B.start (D.state device.keeper.disk) (λ content. StandsFor content B.image B.opening) }
-        requires vouches { (handle : H) → device.beside ≡ Some handle → (read : SpanRead) → H.vouches handle read → B.vouches read }
+        requires vouches { (handle : H) → device.second_handle ≡ Some handle → (read : SpanRead) → H.vouches handle read → B.vouches read }
         requires frames { frames ≤ 65536 }
         requires log { T.logs → IsLogOf B.opening B.image B.vouches B.trusted mode T.trusted T.mode T.image }
         ensures mode { IfOk result (λ made. made.0.mode ≡ mode) }
@@ -169,7 +169,7 @@ impl<B: ExportName, D: Disk, H: ReadBeside, T: Trust> Export<B, D, H, T> {
         let OpenDevice {
             blank,
             keeper,
-            beside,
+            second_handle,
             failures: _,
         } = device;
         match open_parts::<B, D, T>(alloc, blank, &keeper, frames, workers) {
@@ -186,7 +186,7 @@ impl<B: ExportName, D: Disk, H: ReadBeside, T: Trust> Export<B, D, H, T> {
                     log,
                     engine: Mutex::new(engine),
                     queue: Mutex::new(CommitQueue::new(order, frames, workers, settled, journal)),
-                    beside,
+                    second_handle,
                     buffers: Mutex::new(BufferPool::new(alloc)),
                     signals: Signals::new(),
                 };
@@ -197,8 +197,8 @@ impl<B: ExportName, D: Disk, H: ReadBeside, T: Trust> Export<B, D, H, T> {
     }
 
     /// Whether a call of the device has failed: commands are refused from then on.
-    pub fn stopped<R: Wait>(&self, rt: &R) -> bool {
-        self.queue.lock(rt).stopped()
+    pub fn is_stopped<R: Wait>(&self, rt: &R) -> bool {
+        self.queue.lock(rt).is_stopped()
     }
 
     /// The device, as it is, and whether all is stored of the history that the pass of the end then knows; that comes back. What is pending is
@@ -227,7 +227,7 @@ impl<B: ExportName, D: Disk, H: ReadBeside, T: Trust> Export<B, D, H, T> {
             log,
             engine,
             queue,
-            beside: _,
+            second_handle: _,
             buffers: _,
             signals: _,
         } = self;

@@ -2,10 +2,10 @@
 ghost use Rattle.std.specs.Prelude.{◌≡◌, ◌≤◌};
 ghost use mathlib.Core.List.{IsPrefix};
 
-use crate::beside::ReadBeside;
 use crate::export::Export;
 use crate::name::ExportName;
 use crate::retired::LastPass;
+use crate::second_handle::ReadUnlocked;
 use crate::storage_engine::JournalUse;
 use disk_model::Disk;
 use marks::Trust;
@@ -101,7 +101,7 @@ impl Notes {
     }
 }
 
-impl<B: ExportName, D: Disk, H: ReadBeside, T: Trust> Export<B, D, H, T> {
+impl<B: ExportName, D: Disk, H: ReadUnlocked, T: Trust> Export<B, D, H, T> {
     /// The figures of this moment. It takes the order's lock for as long as it copies them, and waits for no call of the device.
     ///
     /// The accepted and the durable number are those of the board, as a FLUSH sees them, so the pass learns that they were reached.

@@ -1,9 +1,9 @@
-use crate::beside::ReadBeside;
 use crate::checkpointing::time_since;
 use crate::commit_queue::CommitQueue;
 use crate::export::Export;
 use crate::gathering::Pace;
 use crate::name::ExportName;
+use crate::second_handle::ReadUnlocked;
 use crate::shortage::Retries;
 use crate::storage_engine::{StorageEngine, StoredGroup};
 use crate::sync_points::{Point, SyncPoints};
@@ -28,7 +28,7 @@ enum Flush<B: ExportName> {
     Ended,
 }
 
-impl<B: ExportName, D: Disk, H: ReadBeside, T: Trust> Export<B, D, H, T> {
+impl<B: ExportName, D: Disk, H: ReadUnlocked, T: Trust> Export<B, D, H, T> {
     /// Stores a group of commands when a request waits for one, when more than 4 MiB are pending, when a command had no room,
     /// when one was pending for as long as `store_within` says, and once all passes have left. It ends when all have left and
     /// nothing is pending, or when a call of the device has failed.
@@ -103,13 +103,13 @@ impl<B: ExportName, D: Disk, H: ReadBeside, T: Trust> Export<B, D, H, T> {
         let mut queue = self.queue.lock(rt);
         queue.set_cannot_store(true);
         self.signals.settled.notify_all();
-        queue.stopped() || (queue.is_left() && retries.are_hopeless())
+        queue.is_stopped() || (queue.is_left() && retries.are_hopeless())
     }
 
     // Seals the next group that is to be stored, where there is one, else it waits for a while.
     fn next_group<R: Wait + Clock>(&self, rt: &R, pace: &mut Pace) -> Flush<B> {
         let mut queue = self.queue.lock(rt);
-        if queue.stopped() || queue.is_done() {
+        if queue.is_stopped() || queue.is_done() {
             return Flush::Ended;
         }
         if !queue.needs_flusher() {

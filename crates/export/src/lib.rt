@@ -2,7 +2,6 @@
 //! the journal into the image.
 #![tactic(auto)]
 
-mod beside;
 mod buffer_pool;
 mod checkpointing;
 mod client_pass;
@@ -17,6 +16,7 @@ mod log_mode;
 mod loss;
 mod name;
 mod retired;
+mod second_handle;
 mod settling;
 mod shortage;
 mod signals;
@@ -25,7 +25,6 @@ mod submitting;
 mod sync_points;
 mod throttling;
 
-pub use beside::ReadBeside;
 pub use client_pass::ClientPass;
 pub use commit_queue::NotedBase;
 pub use export::{Export, OpenDevice};
@@ -33,4 +32,5 @@ pub use figures::ExportFigures;
 pub use laws::{answer_law, opened_device_law};
 pub use name::ExportName;
 pub use retired::{LastPass, RetiredPass};
+pub use second_handle::ReadUnlocked;
 pub use sync_points::{Point, SyncPoints};

@@ -1,15 +1,15 @@
 //! The limit on answered writes that a power cut may take: a write waits while more than that is pending.
 
-use crate::beside::ReadBeside;
 use crate::export::Export;
 use crate::name::ExportName;
+use crate::second_handle::ReadUnlocked;
 use disk_model::Disk;
 use marks::Trust;
 use std::rt::Clock;
 use std::sync::Wait;
 use std::time::Duration;
 
-impl<B: ExportName, D: Disk, H: ReadBeside, T: Trust> Export<B, D, H, T> {
+impl<B: ExportName, D: Disk, H: ReadUnlocked, T: Trust> Export<B, D, H, T> {
     /// From now on no write is accepted that could leave more than `most` bytes of commands pending: it waits until some are stored.
     pub fn limit_loss<R: Wait>(&self, rt: &R, most: u64) {
         self.queue.lock(rt).limit_pending(most);
@@ -20,7 +20,7 @@ impl<B: ExportName, D: Disk, H: ReadBeside, T: Trust> Export<B, D, H, T> {
     pub fn wait_while_older<R: Wait + Clock>(&self, rt: &R, limit: Duration) {
         let mut queue = self.queue.lock(rt);
         for _ in rt.forever() {
-            if queue.stopped() || queue.cannot_store() || !queue.is_older_than(rt, limit) {
+            if queue.is_stopped() || queue.cannot_store() || !queue.is_older_than(rt, limit) {
                 return;
             }
             queue.want_pending();

@@ -4,12 +4,12 @@ ghost use mathlib.Core.List.{IsPrefix};
 ghost use Rattle.export.specs.Submits.{IsSettled};
 ghost use Rattle.marks.specs.Known.{known};
 
-use crate::beside::ReadBeside;
 use crate::client_pass::ClientPass;
 use crate::commit_queue::CommitQueue;
 use crate::export::Export;
 use crate::name::ExportName;
 use crate::retired::RetiredPass;
+use crate::second_handle::ReadUnlocked;
 use crate::sync_points::SyncPoints;
 use disk_model::Disk;
 use marks::Trust;
@@ -60,7 +60,7 @@ impl FlushInterval {
     }
 }
 
-impl<B: ExportName, D: Disk, H: ReadBeside, T: Trust> Export<B, D, H, T> {
+impl<B: ExportName, D: Disk, H: ReadUnlocked, T: Trust> Export<B, D, H, T> {
     /// Has the flusher store what has been pending for so long, though nobody waits for it.
     pub fn store_within<R: Wait>(&self, rt: &R, limit: Duration) {
         self.queue.lock(rt).interval().limit = Some(limit);

@@ -17,7 +17,6 @@ ghost use Rattle.shared_store.specs.Logs.{IsAt, IsLogOf};
 ghost use Rattle.export_model.specs.Verdict.{verdict};
 ghost use Rattle.shared_store.specs.Orders.{Trusting};
 
-use crate::beside::ReadBeside;
 use crate::buffer_pool::LEAST_KEPT;
 use crate::client_pass::ClientPass;
 use crate::commit_queue::Planned;
@@ -25,6 +24,7 @@ use crate::edges::MissingEdges;
 use crate::export::Export;
 use crate::name::ExportName;
 use crate::retired::{LastPass, RetiredPass};
+use crate::second_handle::ReadUnlocked;
 use crate::sync_points::SyncPoints;
 use disk_model::{DeviceFault, Disk};
 use image_model::BLOCK_BYTES;
@@ -38,7 +38,7 @@ use std::sync::Wait;
 /// How often a READ is tried without locks before it waits for the keeper.
 const MOST_TRIES: u32 = 2;
 
-impl<B: ExportName, D: Disk, H: ReadBeside, T: Trust> Export<B, D, H, T> {
+impl<B: ExportName, D: Disk, H: ReadUnlocked, T: Trust> Export<B, D, H, T> {
     /// The answer to a FLUSH sent now: Done if all that was accepted by now is durable, and otherwise nothing. It waits for nobody and
     /// takes no lock.
     pub fn flush_now(&self, pass: &mut ClientPass<B>) -> Option<Answer>
@@ -77,7 +77,7 @@ impl<B: ExportName, D: Disk, H: ReadBeside, T: Trust> Export<B, D, H, T> {
     }
 }
 
-impl<B: ExportName, D: Disk, H: ReadBeside, T: Trust> Export<B, D, H, T> {
+impl<B: ExportName, D: Disk, H: ReadUnlocked, T: Trust> Export<B, D, H, T> {
     /// Serves a request that isn't a DISC, for a pass, to its reply. It may wait: for room, and until what it says is durable.
     ///
     /// A request that the rules on requests refuse gets their error. Any other one gets EIO after a device fault, ENOMEM if memory is
@@ -229,7 +229,7 @@ impl<B: ExportName, D: Disk, H: ReadBeside, T: Trust> Export<B, D, H, T> {
                 let _woken = self.signals.settled.wait(rt, queue);
             }
             Served::NoRoom(_) => {
-                queue.miss_room();
+                queue.note_no_room();
                 self.signals.notify(true, true);
                 let _woken = self.signals.settled.wait(rt, queue);
             }
@@ -258,7 +258,7 @@ impl<B: ExportName, D: Disk, H: ReadBeside, T: Trust> Export<B, D, H, T> {
         ensures fits { FitsServed terms.geometry terms.flags request result }
         ensures tells { Trusting B.opening B.image B.vouches B.trusted (ServesImage (apply_all pass.new.history B.image) request.head result) }
     {
-        match self.serve_beside(rt, pass, &request, planned, &terms) {
+        match self.serve_unlocked(rt, pass, &request, planned, &terms) {
             Some(served) => served,
             None if planned.is_none() && !self.can_read(edges) => {
                 refuse(&request, &terms, Errno::Io)
@@ -270,7 +270,7 @@ impl<B: ExportName, D: Disk, H: ReadBeside, T: Trust> Export<B, D, H, T> {
     // Whether the second handle, if there is one, can read the blocks of which a write command takes old bytes. A fault is met here
     // because the keeper's faults stop the export.
     fn can_read(&self, edges: MissingEdges) -> bool {
-        let Some(handle) = &self.beside else {
+        let Some(handle) = &self.second_handle else {
             return true;
         };
         let mut bytes = [0; BLOCK_BYTES as usize];
@@ -282,7 +282,10 @@ impl<B: ExportName, D: Disk, H: ReadBeside, T: Trust> Export<B, D, H, T> {
                 continue;
             }
             let from = Regions::of(&self.geometry).block_from(block);
-            if handle.read_beside(edges.settled, from, &mut bytes).is_err() {
+            if handle
+                .read_unlocked(edges.settled, from, &mut bytes)
+                .is_err()
+            {
                 return false;
             }
         }
@@ -292,7 +295,7 @@ impl<B: ExportName, D: Disk, H: ReadBeside, T: Trust> Export<B, D, H, T> {
     // Serves a READ whose missing blocks are read without locks. None if nothing is planned, there is no second handle or no memory, or
     // what was read wasn't enough each time. If a read fails the READ gets EIO: the keeper doesn't try it, because its faults stop the
     // export.
-    fn serve_beside<R: Wait>(
+    fn serve_unlocked<R: Wait>(
         &self,
         rt: &R,
         pass: &mut Pass<B>,
@@ -313,7 +316,7 @@ impl<B: ExportName, D: Disk, H: ReadBeside, T: Trust> Export<B, D, H, T> {
         let Some(mut planned) = planned else {
             return None;
         };
-        let Some(handle) = &self.beside else {
+        let Some(handle) = &self.second_handle else {
             return None;
         };
         let head = request.head();
@@ -380,7 +383,7 @@ impl<B: ExportName, D: Disk, H: ReadBeside, T: Trust> Export<B, D, H, T> {
         let span = planned.span;
         let from = (BLOCK_BYTES * (span.first - first)) as usize;
         let end = (BLOCK_BYTES * (span.end - first)) as usize;
-        handle.read_beside(
+        handle.read_unlocked(
             planned.settled,
             Regions::of(&self.geometry).block_from(span.first),
             &mut into[from..end],
@@ -409,7 +412,7 @@ impl<B: ExportName, D: Disk, H: ReadBeside, T: Trust> Export<B, D, H, T> {
         drop(turn);
         let mut queue = self.queue.lock(rt);
         let served = engine.serve(&mut queue, self.alloc, request, &self.board, pass, terms);
-        if queue.stopped() {
+        if queue.is_stopped() {
             self.signals.notify_all();
             return served;
         }
@@ -444,7 +447,7 @@ impl<B: ExportName, D: Disk, H: ReadBeside, T: Trust> Export<B, D, H, T> {
             if self.board.look_durable(pass) >= number {
                 return Answer::Done;
             }
-            if queue.stopped() || queue.cannot_store() {
+            if queue.is_stopped() || queue.cannot_store() {
                 return Answer::Refused(Errno::Io);
             }
             queue = match self.lead(rt, &mut queue) {

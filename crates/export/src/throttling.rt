@@ -1,9 +1,9 @@
 //! Writers are slowed down where they fill the frames faster than the journal is copied into the image. Without that they would run
 //! into the last frame at full speed, and all wait until an area is copied.
 
-use crate::beside::ReadBeside;
 use crate::export::Export;
 use crate::name::ExportName;
+use crate::second_handle::ReadUnlocked;
 use disk_model::Disk;
 use image_model::BLOCK_BYTES;
 use marks::Trust;
@@ -65,7 +65,7 @@ pub(crate) fn eighths_above(dirty: u64, frames: u64) -> u64 {
         .saturating_sub(frames.saturating_mul(7))
 }
 
-impl<B: ExportName, D: Disk, H: ReadBeside, T: Trust> Export<B, D, H, T> {
+impl<B: ExportName, D: Disk, H: ReadUnlocked, T: Trust> Export<B, D, H, T> {
     /// Has a client wait that has written this many bytes, for 10 ms at most, if more than seven eighths of the frames are dirty;
     /// for how long it did, where that can be told. The write was accepted after `began`, where that is known.
     pub fn throttle<R: Wait + Clock>(

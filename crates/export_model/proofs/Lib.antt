@@ -1,5 +1,5 @@
-mod Edited
+mod EditsBecomeCommands
 mod Reached
-mod Shown
+mod AnswersFitOrder
 mod Truthful
 mod Waiting

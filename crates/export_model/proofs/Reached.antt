@@ -11,7 +11,7 @@ use Rattle.export_model.specs.declared.action.Action.TheVariants.{End, Serve}
 use Rattle.export_model.specs.declared.connection.Connection.{Connection}
 use Rattle.export_model.specs.declared.connection.Connection.TheVariants.{Idle, Requested, Waiting, Ready, Closed}
 use Rattle.export_model.specs.declared.event.Event.{Event}
-use Rattle.export_model.specs.declared.event.Event.TheVariants.{Answered, Took, Held, Failed}
+use Rattle.export_model.specs.declared.event.Event.TheVariants.{Answered, Took, Skipped, Failed}
 use Rattle.export_model.specs.declared.event.StepFault.{StepFault}
 use Rattle.export_model.specs.declared.event.StepFault.TheVariants as fault
 use Rattle.nbd_wire.specs.declared.message.Answer.TheVariants.{Done, Refused}
@@ -60,7 +60,7 @@ grows_plain world next event setting log order paired stored durable base cleane
 
 module _ (world : World) where
   grows_held : Grows world (held world)
-  grows_held = grows_plain world (held world) Held refl refl refl refl (omega arith) (omega arith) (λ within. omega arith) (λ within. omega arith) (omega arith) (λ is. is)
+  grows_held = grows_plain world (held world) Skipped refl refl refl refl (omega arith) (omega arith) (λ within. omega arith) (λ within. omega arith) (omega arith) (λ is. is)
 
   module _ (c : ℕ) where
     grows_moved : (state : Connection) (event : Event) → Grows world (logged (moved world c state) event)
@@ -167,7 +167,7 @@ module _ (world : World) where
   grows_append failure = of_either (Grows world) (nat_lt world.stage.stored world.stage.sealed) _ _
       (λ hand. of_either (Grows world) world.stage.stopped _ _ (λ stopped. grows_back _)
       (λ works. of_either (Grows world) (fits world) _ _ (λ fit. let more = ltb-true world.stage.stored world.stage.sealed hand in
-      grows_written failure _ (grows_plain world _ Took refl refl refl refl (omega (arith, more)) (omega arith) (λ within. omega arith) (λ within. omega arith) (omega arith) (λ is. is))) (λ full. grows_back Held)))
+      grows_written failure _ (grows_plain world _ Took refl refl refl refl (omega (arith, more)) (omega arith) (λ within. omega arith) (λ within. omega arith) (omega arith) (λ is. is))) (λ full. grows_back Skipped)))
       (λ none. grows_held)
 
   -- what a checkpoint comes to

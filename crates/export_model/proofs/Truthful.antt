@@ -15,7 +15,7 @@ use Rattle.export_model.specs.declared.action.Action.TheVariants.{End, Serve}
 use Rattle.export_model.specs.declared.connection.Connection.{Connection}
 use Rattle.export_model.specs.declared.connection.Connection.TheVariants.{Idle, Requested, Waiting, Ready, Closed}
 use Rattle.export_model.specs.declared.event.Event.{Event}
-use Rattle.export_model.specs.declared.event.Event.TheVariants.{Sent, Answered, Numbered, Took, Held, Failed}
+use Rattle.export_model.specs.declared.event.Event.TheVariants.{Sent, Answered, Numbered, Took, Skipped, Failed}
 use Rattle.nbd_wire.specs.declared.message.Answer.{Answer}
 use Rattle.nbd_wire.specs.declared.message.Answer.TheVariants.{Done, Refused}
 use Rattle.export_model.specs.declared.event.StepFault.TheVariants as fault
@@ -45,7 +45,7 @@ IsBacked stage (Failed fault.NoMemory) = Unit {0}
 IsBacked stage (Sent connection request) = Unit {0}
 IsBacked stage (Numbered connection number) = Unit {0}
 IsBacked stage Took = Unit {0}
-IsBacked stage Held = Unit {0}
+IsBacked stage Skipped = Unit {0}
 
 backed_more : (old new : Stage) (event : Event) → (old.stopped ≡ true → new.stopped ≡ true) → (is_full old ≡ true → is_full new ≡ true) → IsBacked old event → IsBacked new event
 backed_more old new (Answered connection outcome) stopped full is = λ fault. stopped (is fault)
@@ -56,7 +56,7 @@ backed_more old new (Failed fault.NoMemory) stopped full is = tt
 backed_more old new (Sent connection request) stopped full is = tt
 backed_more old new (Numbered connection number) stopped full is = tt
 backed_more old new Took stopped full is = tt
-backed_more old new Held stopped full is = tt
+backed_more old new Skipped stopped full is = tt
 
 backed_stopped : (stage : Stage) (event : Event) → IsBacked stage event → TellsFault event → stage.stopped ≡ true
 backed_stopped stage (Answered connection outcome) is tells = is tells
@@ -67,7 +67,7 @@ backed_stopped stage (Failed fault.NoMemory) is tells = absurd tells
 backed_stopped stage (Sent connection request) is tells = absurd tells
 backed_stopped stage (Numbered connection number) is tells = absurd tells
 backed_stopped stage Took is tells = absurd tells
-backed_stopped stage Held is tells = absurd tells
+backed_stopped stage Skipped is tells = absurd tells
 
 -- What events tell is so, and an order was stopped only after a fault.
 record IsTruthful (world : World) : Type 0 where
@@ -160,7 +160,7 @@ module _ (world : World) (true_so_far : IsTruthful world) where
       going (inr most) = inr (omega (arith, most, faults))
 
   calm_held : IsTruthful (held world)
-  calm_held = calm (held world) Held refl refl refl refl (λ is. is) tt true_so_far.due
+  calm_held = calm (held world) Skipped refl refl refl refl (λ is. is) tt true_so_far.due
 
   calm_failed : IsTruthful (logged world (Failed fault.NoMemory))
   calm_failed = calm (logged world (Failed fault.NoMemory)) (Failed fault.NoMemory) refl refl refl refl (λ is. is) tt true_so_far.due
@@ -328,7 +328,7 @@ module _ (world : World) (true_so_far : IsTruthful world) where
   calm_append failure = of_either IsTruthful (nat_lt world.stage.stored world.stage.sealed) _ _
       (λ hand. of_either IsTruthful world.stage.stopped _ _ (λ stopped. calm_back (Failed fault.FailedBefore) stopped)
       (λ works. of_either IsTruthful (fits world) _ _
-      (λ fit. calm_written failure (record world.stage { stored = world.stage.sealed; at = world.stage.at + 17 + bodies_bytes (in_hand world) }) (λ is. is)) (λ full. calm_back Held tt)))
+      (λ fit. calm_written failure (record world.stage { stored = world.stage.sealed; at = world.stage.at + 17 + bodies_bytes (in_hand world) }) (λ is. is)) (λ full. calm_back Skipped tt)))
       (λ none. calm_held)
 
   calm_publish : IsTruthful (publish world)

@@ -4,7 +4,7 @@ use Rattle.disk_model.specs.Faults.{HasRisen}
 use Rattle.image_model.specs.Change.{Change}
 use Rattle.nbd_wire.specs.declared.error.Errno.TheVariants.{Io}
 use Rattle.export_model.specs.declared.event.Event.{Event}
-use Rattle.export_model.specs.declared.event.Event.TheVariants.{Sent, Answered, Numbered, Took, Held, Failed}
+use Rattle.export_model.specs.declared.event.Event.TheVariants.{Sent, Answered, Numbered, Took, Skipped, Failed}
 use Rattle.nbd_wire.specs.declared.message.Answer.TheVariants.{Refused}
 use Rattle.export_model.specs.declared.event.StepFault.TheVariants as fault
 use Rattle.export_model.specs.Checkpoint.{is_full, is_turned, last_turned, left_behind}
@@ -60,7 +60,7 @@ TellsFault (Failed fault.NumbersFull) = ⊥
 TellsFault (Sent connection request) = ⊥
 TellsFault (Numbered connection number) = ⊥
 TellsFault Took = ⊥
-TellsFault Held = ⊥
+TellsFault Skipped = ⊥
 
 -- A fault of the device is told, or stops the export, only where the device has counted one since the life began; and it has
 -- counted none as long as the export works. That no generation is left is told only where none is.

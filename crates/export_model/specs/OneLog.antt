@@ -6,7 +6,7 @@ use Rattle.export_model.specs.Covered.{IsCovered}
 use Rattle.export_model.specs.Fits.{EditsFit, ReadsFit}
 use Rattle.export_model.specs.Log.{IsLegal}
 use Rattle.export_model.specs.declared.event.Event.{Event}
-use Rattle.export_model.specs.declared.event.Event.TheVariants.{Sent, Answered, Numbered, Took, Held, Failed}
+use Rattle.export_model.specs.declared.event.Event.TheVariants.{Sent, Answered, Numbered, Took, Skipped, Failed}
 use Rattle.export_model.specs.declared.step.Mode.{Mode}
 
 -- whether an event is a request or an answer of the connection
@@ -15,7 +15,7 @@ is_by connection (Sent by request) = by == connection
 is_by connection (Answered by outcome) = by == connection
 is_by connection (Numbered by number) = false
 is_by connection Took = false
-is_by connection Held = false
+is_by connection Skipped = false
 is_by connection (Failed fault) = false
 
 -- what the connection sent and was answered, in order

@@ -12,7 +12,7 @@ use Rattle.export_model.specs.declared.action.Action.TheVariants.{End, Serve}
 use Rattle.export_model.specs.declared.connection.Connection.{Connection}
 use Rattle.export_model.specs.declared.connection.Connection.TheVariants.{Idle, Requested, Waiting, Ready, Closed}
 use Rattle.export_model.specs.declared.event.Event.{Event}
-use Rattle.export_model.specs.declared.event.Event.TheVariants.{Answered, Numbered, Took, Held}
+use Rattle.export_model.specs.declared.event.Event.TheVariants.{Answered, Numbered, Took, Skipped}
 use Rattle.nbd_wire.specs.declared.message.Answer.{Answer}
 use Rattle.nbd_wire.specs.declared.message.Answer.TheVariants.{Done, Refused}
 use Rattle.export_model.specs.Log.{edit_asked, flush_waits, is_flush, waits_for_store}
@@ -40,7 +40,7 @@ abbrev pub logged : World → Event → World
 logged world event = record world { log = world.log ++ event ∷ [] }
 
 abbrev pub held : World → World
-held world = logged world Held
+held world = logged world Skipped
 
 -- the connection comes to this state, and nothing else changes
 abbrev pub moved : World → ℕ → Connection → World

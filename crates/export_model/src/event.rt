@@ -13,7 +13,7 @@ pub enum Event {
     /// Another step took place.
     Took,
     /// The step's condition didn't hold.
-    Held,
+    Skipped,
     /// The step failed.
     Failed(StepFault),
 }

@@ -29,11 +29,11 @@ use Rattle.export_steps.specs.inner.Storing.{hand_refused, order_refused, step_e
 use Rattle.export_steps.specs.laws.Lives.{IsOrdered, keeps_of, ordered, part_none, take_part, through_turned}
 use Rattle.request_core.specs.laws.Commands.{apply_append}
 use Rattle.export_steps.specs.laws.Orders.{order_puts_back, order_stops}
-use Rattle.export_steps.proofs.Stored.{not_true_is}
+use Rattle.export_steps.proofs.StoringSteps.{not_true_is}
 use Rattle.export_steps.proofs.Times.{copy_lefts, copy_phase, copy_sound, copy_whole, finish_lefts, finish_phase, finish_some, finish_sound, finish_whole, fronts_more, map_phase, map_sound, map_whole, numbers_length, numbers_more, rotate_lefts, rotate_phase, rotate_some, rotate_sound, rotate_whole, phase_by}
 use Rattle.export_model.specs.Checkpoint.{can_copy, can_finish, can_map, can_rotate, finished, is_full, is_turned, last_turned, left_behind, rotated, to_copy}
 use Rattle.export_model.specs.declared.event.Event.{Event}
-use Rattle.export_model.specs.declared.event.Event.TheVariants.{Took, Held, Failed}
+use Rattle.export_model.specs.declared.event.Event.TheVariants.{Took, Skipped, Failed}
 use Rattle.export_model.specs.declared.event.StepFault.TheVariants.{NoMemory, DeviceFault, NumbersFull, FailedBefore}
 use Rattle.export_model.specs.Serve.{Failure, Nothing, OutOfMemory, DeviceFailure, held, logged, faulted, staged}
 use Rattle.export_model.specs.Step.{copy_block, finish, in_time, out_of_memory, rotate, without_memory, write_map, written}
@@ -253,8 +253,8 @@ module _ {D : Type 0} (state : D → State) (faults extent : D → ℕ) (honest 
         let is = not_now.0 refl in
         let late = not_true time (λ now. is.1 (sound_time now)) in (
           Nothing,
-          subst (λ (w : World). Leaves w Held order hand new)
-              (sym (goes_working Nothing is.0 ∙ ap (λ b. if b then (if brim then logged world (Failed NumbersFull) else inner Nothing) else held world) late)) (nothing_done Held new same),
+          subst (λ (w : World). Leaves w Skipped order hand new)
+              (sym (goes_working Nothing is.0 ∙ ap (λ b. if b then (if brim then logged world (Failed NumbersFull) else inner Nothing) else held world) late)) (nothing_done Skipped new same),
         )
     step_refused fault.Failed new only failed not_now full fills memory device same level stays_honest stays = (
       Nothing,

@@ -17,7 +17,7 @@ use Rattle.export_steps.specs.laws.Orders.{order_accepts, room_of}
 use Rattle.export_model.specs.declared.connection.Connection.{Connection}
 use Rattle.export_model.specs.declared.connection.Connection.TheVariants.{Idle, Requested, Waiting, Ready, Closed}
 use Rattle.export_model.specs.declared.event.Event.{Event}
-use Rattle.export_model.specs.declared.event.Event.TheVariants.{Numbered as numbered, Held}
+use Rattle.export_model.specs.declared.event.Event.TheVariants.{Numbered as numbered, Skipped}
 use Rattle.nbd_wire.specs.declared.message.Answer.TheVariants.{Refused}
 use Rattle.export_model.specs.Log.{edit_asked, waits_for_store}
 use Rattle.export_model.specs.Serve.{Failure, logged, held, moved, ready, accepted, numbered as got_number, write_served, state_after}
@@ -47,7 +47,7 @@ module _ (world : World) (c : ℕ) (request : Message) (order : OrderState) (gro
   pub served_moved : (state : Connection) (event : Event) → IsServed world (logged (moved world c state) event) c state event order group
   served_moved state event = record { connections = λ d. refl; log = refl; grown = grown_same world.stage; of_order = of }
 
-  pub served_held : world.connections c ≡ Requested request → IsServed world (held world) c (Requested request) Held order group
+  pub served_held : world.connections c ≡ Requested request → IsServed world (held world) c (Requested request) Skipped order group
   served_held is = record { connections = put_as_is world.connections c (Requested request) is; log = refl; grown = grown_same world.stage; of_order = of }
 
   -- a command that got its number

@@ -15,7 +15,7 @@ use Rattle.export_steps.proofs.Serves.{grown_same}
 use Rattle.export_model.specs.declared.connection.Connection.{Connection}
 use Rattle.export_model.specs.declared.connection.Connection.TheVariants.{Idle, Requested, Waiting, Ready, Closed}
 use Rattle.export_model.specs.declared.event.Event.{Event}
-use Rattle.export_model.specs.declared.event.Event.TheVariants.{Sent, Answered, Held, Failed}
+use Rattle.export_model.specs.declared.event.Event.TheVariants.{Sent, Answered, Skipped, Failed}
 use Rattle.export_model.specs.declared.event.StepFault.TheVariants.{NoMemory}
 use Rattle.nbd_wire.specs.declared.message.Answer.{Answer}
 use Rattle.nbd_wire.specs.declared.message.Answer.TheVariants.{Done, Refused}
@@ -68,7 +68,7 @@ open_unlike request is = cc
 
 module _ (world : World) (items new : List Connection) (c : ℕ) (event : Event) (order : OrderState) (group : Option Numbered)
     (of : IsOrderOf world.stage order group) (same : AreConnectionsOf world items) where
-  pub talked_held : new ≡ items → event ≡ Held → IsTalked world (held world) new event order group
+  pub talked_held : new ≡ items → event ≡ Skipped → IsTalked world (held world) new event order group
   talked_held new_is event_is = record {
     of_connections = λ d. ap (λ (l : List Connection). get_or l d Closed) new_is ∙ same d;
     log = ap (λ (e : Event). world.log ++ e ∷ []) (sym event_is);
@@ -85,14 +85,14 @@ module _ (world : World) (items new : List Connection) (c : ℕ) (event : Event)
   }
 
   waiting : (reached stopped : Bool) → c < length items
-      → MatchOption (if reached then Some Done else (if stopped then Some (Refused Io) else None)) ((new ≡ items) × (event ≡ Held)) (λ outcome. (new ≡ set items c Idle) × (event ≡ Answered c outcome))
+      → MatchOption (if reached then Some Done else (if stopped then Some (Refused Io) else None)) ((new ≡ items) × (event ≡ Skipped)) (λ outcome. (new ≡ set items c Idle) × (event ≡ Answered c outcome))
       → IsTalked world (if reached then answered world c Done else (if stopped then answered world c (Refused Io) else held world)) new event order group
   waiting true stopped below is = talked_answered Done below is.0 is.1
   waiting false true below is = talked_answered (Refused Io) below is.0 is.1
   waiting false false below is = talked_held is.0 is.1
 
   by_state : (state : Connection) → get_or items c Closed ≡ state
-      → MatchOption (due_of (world.stage.setting.opening + world.stage.durable) world.stage.stopped state) ((new ≡ items) × (event ≡ Held)) (λ outcome. (new ≡ set items c Idle) × (event ≡ Answered c outcome))
+      → MatchOption (due_of (world.stage.setting.opening + world.stage.durable) world.stage.stopped state) ((new ≡ items) × (event ≡ Skipped)) (λ outcome. (new ≡ set items c Idle) × (event ≡ Answered c outcome))
       → IsTalked world (answer world c state) new event order group
   by_state Idle at is = talked_held is.0 is.1
   by_state (Requested request) at is = talked_held is.0 is.1
@@ -108,10 +108,10 @@ module _ (world : World) (items new : List Connection) (c : ℕ) (event : Event)
   by_state Closed at is = talked_held is.0 is.1
 
   -- a connection that is answered, or to which no answer is due
-  pub talked_answer : MatchOption (due_of order.durable order.stopped (get_or items c Closed)) ((new ≡ items) × (event ≡ Held)) (λ outcome. (new ≡ set items c Idle) × (event ≡ Answered c outcome))
+  pub talked_answer : MatchOption (due_of order.durable order.stopped (get_or items c Closed)) ((new ≡ items) × (event ≡ Skipped)) (λ outcome. (new ≡ set items c Idle) × (event ≡ Answered c outcome))
       → IsTalked world (answer world c (world.connections c)) new event order group
   talked_answer is = by_state (world.connections c) (same c)
-      (subst (λ (due : Option Answer). MatchOption due ((new ≡ items) × (event ≡ Held)) (λ outcome. (new ≡ set items c Idle) × (event ≡ Answered c outcome)))
+      (subst (λ (due : Option Answer). MatchOption due ((new ≡ items) × (event ≡ Skipped)) (λ outcome. (new ≡ set items c Idle) × (event ≡ Answered c outcome)))
       (ap (λ (n : ℕ). due_of n order.stopped (get_or items c Closed)) of.durable
       ∙ (ap (λ (b : Bool). due_of (world.stage.setting.opening + world.stage.durable) b (get_or items c Closed)) of.stopped
       ∙ ap (due_of (world.stage.setting.opening + world.stage.durable) world.stage.stopped) (same c))) is)
@@ -125,7 +125,7 @@ module _ (world : World) (items new : List Connection) (c : ℕ) (event : Event)
   talked_send request is = by_kind (world.connections c) (same c)
       (subst (λ (state : Connection). MatchBool (is_idle state)
       (((new ≡ set items c (Requested request)) × (event ≡ Sent c request)) ⊎ ((new ≡ items) × (event ≡ Failed NoMemory)))
-      ((new ≡ items) × (event ≡ Held))) (same c) is)
+      ((new ≡ items) × (event ≡ Skipped))) (same c) is)
     where
       at_idle : get_or items c Closed ≡ Idle
           → ((new ≡ set items c (Requested request)) × (event ≡ Sent c request)) ⊎ ((new ≡ items) × (event ≡ Failed NoMemory))
@@ -153,7 +153,7 @@ module _ (world : World) (items new : List Connection) (c : ℕ) (event : Event)
       by_kind : (state : Connection) → get_or items c Closed ≡ state
           → MatchBool (is_idle state)
           (((new ≡ set items c (Requested request)) × (event ≡ Sent c request)) ⊎ ((new ≡ items) × (event ≡ Failed NoMemory)))
-          ((new ≡ items) × (event ≡ Held))
+          ((new ≡ items) × (event ≡ Skipped))
           → (failure : Failure) × IsTalked world (send failure world c request state) new event order group
       by_kind Idle at sends = at_idle at sends
       by_kind (Requested other) at is = (Nothing, talked_held is.0 is.1)
@@ -187,9 +187,9 @@ due_none durable stopped Closed left is = (refl, cc)
 
 -- a connection whose state was taken out and put back, because no answer was due
 pub answered_none : (durable : ℕ) (stopped : Bool) (items : List Connection) (c : ℕ) (taken state left : Connection) → get_or items c Closed ≡ state
-    → answer_due durable stopped state ≡ Err left → IsAnsweredBy durable stopped items c (set (set items c taken) c left) Held
+    → answer_due durable stopped state ≡ Err left → IsAnsweredBy durable stopped items c (set (set items c taken) c left) Skipped
 answered_none durable stopped items c taken state left at is =
     let none = due_none durable stopped state left is in
-    subst (λ (due : Option Answer). MatchOption due ((set (set items c taken) c left ≡ items) × (Held ≡ Held)) (λ answer. (set (set items c taken) c left ≡ set items c Idle) × (Held ≡ Answered c answer)))
+    subst (λ (due : Option Answer). MatchOption due ((set (set items c taken) c left ≡ items) × (Skipped ≡ Skipped)) (λ answer. (set (set items c taken) c left ≡ set items c Idle) × (Skipped ≡ Answered c answer)))
     (sym (ap (due_of durable stopped) at ∙ none.0))
     (set-set items c taken left ∙ (ap (set items c) (none.1 ∙ sym at) ∙ set-get_or items c Closed), refl)

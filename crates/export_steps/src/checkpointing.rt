@@ -151,7 +151,7 @@ pub(crate) fn refused<B: BoardName>(
         | KeeperFault::OutOfOrder
         | KeeperFault::DamagedGroup
         | KeeperFault::NotNow
-        | KeeperFault::AreaSmall => Event::Held,
+        | KeeperFault::AreaSmall => Event::Skipped,
     }
 }
 
@@ -181,6 +181,6 @@ pub(crate) fn clean<B: BoardName, D: Disk>(order: &mut Order<B>, keeper: &Keeper
     if order.clean(keeper) {
         Event::Took
     } else {
-        Event::Held
+        Event::Skipped
     }
 }

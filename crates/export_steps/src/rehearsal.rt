@@ -137,7 +137,7 @@ fn carry_out<B: BoardName, D: Disk>(
         (Trusts trusted (D.honest keeper.new.disk)) (D.state keeper.old.disk) (D.state keeper.new.disk)) }
 {
     let place = bench.log.len();
-    bench.log.push(Event::Held)?;
+    bench.log.push(Event::Skipped)?;
     let event = take_step(
         bench.alloc,
         step,

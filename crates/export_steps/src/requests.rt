@@ -65,7 +65,7 @@ pub(crate) fn send(
     ensures size { vec_len states.new ≡ vec_len states.old }
 {
     if !is_idle(states, connection) {
-        return Event::Held;
+        return Event::Skipped;
     }
     let (Ok(sent), Ok(copy)) = (request.try_clone(alloc), request.try_clone(alloc)) else {
         return Event::Failed(StepFault::NoMemory);
@@ -105,7 +105,7 @@ pub(crate) fn serve<B: BoardName, D: Disk>(
         keeper.old keeper.new (D.faults keeper.new.disk) (D.honest keeper.old.disk) (D.state keeper.old.disk) (D.state keeper.new.disk) }
 {
     let Some(request) = take_request(states, connection) else {
-        return Event::Held;
+        return Event::Skipped;
     };
     let (state, event) = serve_request(
         alloc,
@@ -202,9 +202,9 @@ fn serve_or_stop<B: BoardName, D: Disk>(
     ensures serves { (given : Result Action Errno) × (given ≡ verdict request.head terms.geometry terms.flags)
         × IsServedWith D.state D.faults D.honest given request terms.geometry terms.mode order.old order.new keeper.old keeper.new hand.old hand.new result }
 {
-    let works = !order.stopped();
+    let works = !order.is_stopped();
     let served = serve_with_keeper(alloc, request, order, keeper, board, pass, terms);
-    if works && order.stopped() {
+    if works && order.is_stopped() {
         stop(hand, order);
     }
     served
@@ -218,7 +218,7 @@ fn event_of(connection: usize, before: u64, after: u64, served: &Served) -> Even
         return Event::Numbered(connection, after);
     }
     match served {
-        Served::NoRoom(_) => Event::Held,
+        Served::NoRoom(_) => Event::Skipped,
         Served::Ready(_) | Served::Wait(_) => Event::Took,
     }
 }
@@ -244,7 +244,7 @@ pub(crate) fn answer<B: BoardName>(
     ensures size { vec_len states.new ≡ vec_len states.old }
 {
     if connection >= states.len() {
-        return Event::Held;
+        return Event::Skipped;
     }
     match due(
         mem::replace(&mut states[connection], Connection::Idle),
@@ -253,7 +253,7 @@ pub(crate) fn answer<B: BoardName>(
         Ok(answer) => Event::Answered(connection, answer),
         Err(state) => {
             states[connection] = state;
-            Event::Held
+            Event::Skipped
         }
     }
 }
@@ -267,7 +267,7 @@ fn due<B: BoardName>(state: Connection, order: &Order<B>) -> Result<Answer, Conn
         Connection::Waiting(number) => {
             if number <= order.durable() {
                 Ok(Answer::Done)
-            } else if order.stopped() {
+            } else if order.is_stopped() {
                 Ok(Answer::Refused(Errno::Io))
             } else {
                 Err(Connection::Waiting(number))

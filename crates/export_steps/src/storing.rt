@@ -19,7 +19,7 @@ use order_book::Order;
 use std::mem;
 
 // Puts a group into an empty hand.
-fn hold(hand: &mut Option<Group>, group: Group)
+fn put_in_hand(hand: &mut Option<Group>, group: Group)
     ensures { hand.new ≡ Some group }
 {
     if let Some(earlier) = mem::replace(hand, Some(group)) {
@@ -36,13 +36,13 @@ pub(crate) fn seal<B: BoardName>(hand: &mut Option<Group>, order: &mut Order<B>)
     ensures seals { SealsBy hand.old order.old order.new hand.new result }
 {
     if hand.is_some() {
-        return Event::Held;
+        return Event::Skipped;
     }
     match order.seal() {
-        Ok(None) => Event::Held,
+        Ok(None) => Event::Skipped,
         Err(_) => Event::Failed(StepFault::NoMemory),
         Ok(Some(group)) => {
-            hold(hand, group);
+            put_in_hand(hand, group);
             Event::Took
         }
     }
@@ -70,7 +70,7 @@ pub(crate) fn append<B: BoardName, D: Disk>(
 {
     keeper_laws::<D>();
     let Some(group) = hand.take() else {
-        return Event::Held;
+        return Event::Skipped;
     };
     match keeper.append(group) {
         Ok(()) => Event::Took,
@@ -94,7 +94,7 @@ fn give_back<B: BoardName>(
 {
     match fault {
         KeeperFault::NoMemory => {
-            hold(hand, group);
+            put_in_hand(hand, group);
             Event::Failed(StepFault::NoMemory)
         }
         KeeperFault::DeviceFault => {
@@ -116,7 +116,7 @@ fn give_back<B: BoardName>(
         | KeeperFault::NotNow
         | KeeperFault::AreaSmall => {
             order.put_back(group);
-            Event::Held
+            Event::Skipped
         }
     }
 }
@@ -135,7 +135,7 @@ pub(crate) fn publish<B: BoardName, D: Disk>(
     ensures stored { seat.old.durable ≤ keeper.now.count → seat.new.durable ≤ keeper.now.count }
 {
     if order.durable() >= keeper.count() {
-        return Event::Held;
+        return Event::Skipped;
     }
     order.publish(board, seat, keeper);
     Event::Took

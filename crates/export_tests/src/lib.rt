@@ -2,8 +2,6 @@
 #![tactic(auto)]
 
 #[cfg(test)]
-mod beside_tests;
-#[cfg(test)]
 mod flush_tests;
 #[cfg(test)]
 mod memory_file;
@@ -13,6 +11,8 @@ mod order_tests;
 mod pass_tests;
 #[cfg(test)]
 mod requests;
+#[cfg(test)]
+mod second_handle_tests;
 #[cfg(test)]
 mod step_tests;
 #[cfg(test)]

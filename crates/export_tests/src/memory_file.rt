@@ -1,6 +1,6 @@
 //! A file in memory, which several handles share, and a handle whose reads are held.
 use disk_model::DeviceFault;
-use export::{ExportName, NotedBase, ReadBeside};
+use export::{ExportName, NotedBase, ReadUnlocked};
 use image_model::Geometry;
 use order_book::{Order, Span};
 use std::fs::{Metadata, OpenFile};
@@ -119,12 +119,12 @@ pub struct HeldHandle<'a, R: Wait + Clock> {
     pub latch: &'a Latch,
 }
 
-impl<'a, R: Wait + Clock> ReadBeside for HeldHandle<'a, R> {
+impl<'a, R: Wait + Clock> ReadUnlocked for HeldHandle<'a, R> {
     ghost gives = { λ handle asked offset bytes. Unit {0} };
 
     ghost vouches = { λ handle read. Unit {0} };
 
-    fn read_beside(
+    fn read_unlocked(
         &self,
         _asked: NotedBase,
         offset: u64,

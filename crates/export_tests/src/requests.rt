@@ -3,7 +3,7 @@ ghost use Rattle.std.specs.Prelude.{◌≡◌, ◌≢◌, ◌*◌, ◌<◌, ◌^
 
 use checkpoint::Keeper;
 use disk_model::{Disk, SimDisk};
-use export::{ClientPass, Export, ExportName, OpenDevice, ReadBeside};
+use export::{ClientPass, Export, ExportName, OpenDevice, ReadUnlocked};
 use image_model::Geometry;
 use nbd_wire::{Answer, FLUSH, READ, Request, RequestHead, SessionFlags, TRIM, WRITE};
 use std::alloc::{AllocError, Global};
@@ -129,7 +129,7 @@ fn is_done(answer: &Answer) -> bool {
 }
 
 // Writes a block; whether it was answered Ok.
-pub fn write_block<B: ExportName, D: Disk, H: ReadBeside, R: Wait + Clock>(
+pub fn write_block<B: ExportName, D: Disk, H: ReadUnlocked, R: Wait + Clock>(
     rt: &R,
     alloc: Global,
     export: &Export<B, D, H>,
@@ -146,7 +146,7 @@ pub fn write_block<B: ExportName, D: Disk, H: ReadBeside, R: Wait + Clock>(
 }
 
 // Trims a block; whether it was answered Ok.
-pub fn trim_block<B: ExportName, D: Disk, H: ReadBeside, R: Wait + Clock>(
+pub fn trim_block<B: ExportName, D: Disk, H: ReadUnlocked, R: Wait + Clock>(
     rt: &R,
     alloc: Global,
     export: &Export<B, D, H>,
@@ -163,7 +163,7 @@ pub fn trim_block<B: ExportName, D: Disk, H: ReadBeside, R: Wait + Clock>(
 }
 
 // Flushes; whether it was answered Ok.
-pub fn flush<B: ExportName, D: Disk, H: ReadBeside, R: Wait + Clock>(
+pub fn flush<B: ExportName, D: Disk, H: ReadUnlocked, R: Wait + Clock>(
     rt: &R,
     alloc: Global,
     export: &Export<B, D, H>,
@@ -187,7 +187,7 @@ fn are_bytes(block: u64, round: u64, bytes: &[u8]) -> bool {
 }
 
 // Whether a READ of a block gives its bytes of a round.
-pub fn reads_back<B: ExportName, D: Disk, H: ReadBeside, R: Wait + Clock>(
+pub fn reads_back<B: ExportName, D: Disk, H: ReadUnlocked, R: Wait + Clock>(
     rt: &R,
     alloc: Global,
     export: &Export<B, D, H>,

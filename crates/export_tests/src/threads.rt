@@ -1,7 +1,7 @@
 //! Threads beside the passes of an export: one that stores groups, and one that copies the journal into the image.
 
 use disk_model::Disk;
-use export::{Export, ExportName, ReadBeside};
+use export::{Export, ExportName, ReadUnlocked};
 use std::rt::Clock;
 use std::sync::Wait;
 use std::thread::Scope;
@@ -15,7 +15,7 @@ pub(crate) fn start_storing<'s, E, B, D, H, R>(
 where
     B: ExportName + Send + Sync + 's,
     D: Disk + Send + 's,
-    H: ReadBeside + Send + Sync + 's,
+    H: ReadUnlocked + Send + Sync + 's,
     R: Wait + Clock + Sync + 's,
 {
     scope.spawn(move || export.flusher(rt, &mut ())).is_ok()

@@ -61,7 +61,7 @@ impl DeviceNumber {
     }
 
     // Whether another device stands on it.
-    fn is_held(self, rt: &HostRuntime) -> io::Result<bool> {
+    fn is_in_use(self, rt: &HostRuntime) -> io::Result<bool> {
         let DeviceNumber { major, minor } = self;
         let path = format!(in rt.alloc(); "/sys/dev/block/{major}:{minor}/holders")?;
         match fs::read_dir(rt, path.as_str()) {
@@ -97,7 +97,7 @@ pub(crate) fn holder_of(rt: &HostRuntime, device: DeviceNumber) -> io::Result<Op
         return Ok(Some(Holder::Swap));
     }
     for member in family.as_slice() {
-        if member.is_held(rt)? {
+        if member.is_in_use(rt)? {
             return Ok(Some(Holder::Device));
         }
     }

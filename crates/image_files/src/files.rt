@@ -123,7 +123,11 @@ fn place_of(rt: &HostRuntime, path: &str) -> Result<Place, FileFault> {
 }
 
 // Locks a file, and what else names its device; nothing else works on it, and no text of this process goes into it.
-fn hold(rt: &HostRuntime, file: &File, sharing: Sharing) -> Result<(Metadata, Locks), FileFault> {
+fn lock_and_check(
+    rt: &HostRuntime,
+    file: &File,
+    sharing: Sharing,
+) -> Result<(Metadata, Locks), FileFault> {
     sharing.lock(file)?;
     let metadata = OpenFile::metadata(file)?;
     let locks = Locks::take(rt, &metadata, sharing)?;
@@ -163,7 +167,7 @@ fn measured(
     place: Place,
     sharing: Sharing,
 ) -> Result<Opened, FileFault> {
-    let (metadata, locks) = hold(rt, &file, sharing)?;
+    let (metadata, locks) = lock_and_check(rt, &file, sharing)?;
     let length = length_of(&file, &metadata, place)?;
     let (file, size) = match place {
         Place::File => (file, length),
@@ -276,7 +280,7 @@ fn fresh(
     wanted: Wanted,
     place: Place,
 ) -> Result<FreshFile, FileFault> {
-    let (metadata, locks) = hold(rt, &file, Sharing::Alone)?;
+    let (metadata, locks) = lock_and_check(rt, &file, Sharing::Alone)?;
     let length = length_of(&file, &metadata, place)?;
     if place == Place::BlockDevice && length < wanted.size {
         return Err(FileFault::Short);

@@ -1,4 +1,4 @@
 mod Bodies
 mod Heads
-mod Refused
+mod RefusalHandedOn
 mod Torn

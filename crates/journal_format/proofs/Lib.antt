@@ -1,1 +1,1 @@
-mod Refused
+mod RefusalHandedOn

@@ -86,7 +86,7 @@ impl LastTouches {
         ensures some { IfSome result (IsNextPut from self.now.ranges) }
         ensures none { IfNone result (HasNoPut from self.now.ranges) }
     {
-        let index = first_behind(&self.puts, from);
+        let index = first_after(&self.puts, from);
         if index < self.puts.len() {
             Some(self.puts[index].from_block(from))
         } else {
@@ -167,7 +167,7 @@ fn puts(alloc: Global, ranges: &[LastRange]) -> Result<Vec<PutRange>, AllocError
 }
 
 // The index of the first put that ends after the block.
-fn first_behind(puts: &[PutRange], block: u32) -> usize
+fn first_after(puts: &[PutRange], block: u32) -> usize
     requires { IsNonDecreasingBy (λ put. put.first + put.blocks) puts.now }
     ensures before { AllWithin (EndsBy block) puts.now 0 result }
     ensures behind { AllWithin (EndsBehind block) puts.now result (length puts.now) }

@@ -48,7 +48,7 @@ fn next_range(older: &[LastRange], newer: &[LastRange], laid: &mut Laid) -> Opti
     ensures none { IfNone result
         ((block : ℕ) → left_at (drop laid.old.older older.now) (drop laid.old.newer newer.now) laid.old.done block ≡ None) }
 {
-    laid.older = first_behind(older, laid.older, laid.done);
+    laid.older = first_after(older, laid.older, laid.done);
     let new = range_at(newer, laid.newer);
     if let Some(part) = part_of(older, laid.older, laid.done, first_of(new)) {
         laid.done = part.end();
@@ -84,7 +84,7 @@ fn range_at(ranges: &[LastRange], index: usize) -> Option<LastRange>
 }
 
 // The index of the first range from one index on that ends after the block.
-fn first_behind(ranges: &[LastRange], index: usize, block: u32) -> usize
+fn first_after(ranges: &[LastRange], index: usize, block: u32) -> usize
     requires { AreRanges 0 4294967295 (drop index ranges.now) }
     ensures left { AreRanges 0 4294967295 (drop result ranges.now) }
     ensures same { (place : ℕ) → block ≤ place → touch_at place (drop result ranges.now) ≡ touch_at place (drop index ranges.now) }

@@ -312,7 +312,7 @@ fn fill<R: Read>(state: State, input: &mut R) -> (State, io::Result<usize>)
     match state {
         State::Data { head, bytes } => {
             let most = head.length as usize - 1 - bytes.len();
-            let (bytes, count) = read_behind(input, bytes, most.min(MOST_LENT));
+            let (bytes, count) = read_after(input, bytes, most.min(MOST_LENT));
             (State::Data { head, bytes }, count)
         }
         state => (state, Ok(0)),
@@ -320,7 +320,7 @@ fn fill<R: Read>(state: State, input: &mut R) -> (State, io::Result<usize>)
 }
 
 // Reads once, up to this many bytes, after bytes that have the room for them.
-fn read_behind<R: Read>(
+fn read_after<R: Read>(
     input: &mut R,
     mut bytes: Vec<u8>,
     most: usize,

@@ -119,7 +119,7 @@ impl DeviceWatch {
 
     /// Holds off all other syncs. The system tells of a write that failed once for all handles of a file: if it tells the guard, no
     /// sync of the keeper may succeed before the device has failed.
-    pub fn hold_syncs<R: Wait>(&self, rt: &R) -> MutexGuard<'_, ()> {
+    pub fn lock_syncs<R: Wait>(&self, rt: &R) -> MutexGuard<'_, ()> {
         self.syncs.lock(rt)
     }
 

@@ -39,7 +39,7 @@ pub fn take(rt: &HostRuntime, at: u8) -> io::Result<(Listener, String)> {
     socket.set_nonblocking(false)?;
     if let Ok(address) = socket.local_addr() {
         let said = format!(in rt.alloc(); "{}", address.port())?;
-        return Ok((Listener::from(socket).shared(), said));
+        return Ok((Listener::from(socket).into_shared(), said));
     }
     let socket = UnixListener::from(OwnedFd::from(socket));
     let address = socket.local_addr()?;
@@ -47,5 +47,5 @@ pub fn take(rt: &HostRuntime, at: u8) -> io::Result<(Listener, String)> {
         Some(path) => format!(in rt.alloc(); "{}", path.as_str())?,
         None => format!(in rt.alloc(); "fd {descriptor}")?,
     };
-    Ok((Listener::from(socket).shared(), said))
+    Ok((Listener::from(socket).into_shared(), said))
 }

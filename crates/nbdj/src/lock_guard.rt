@@ -46,7 +46,7 @@ impl<'a> LockGuard<'a> {
 
     // Takes the lock again, and syncs the device. If either is refused the device has failed.
     fn check<R: Wait + Clock>(&self, rt: &R) -> io::Result<()> {
-        let _sole = self.watch.hold_syncs(rt);
+        let _sole = self.watch.lock_syncs(rt);
         let place = self.watch.begin(rt)?;
         let checked = self.lock_and_sync();
         let ended = self.watch.end(rt, place);

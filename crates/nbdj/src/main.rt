@@ -4,12 +4,12 @@
 ghost use Rattle.std.specs.Prelude.{ℕ};
 ghost use Rattle.nbdj_pipe.specs.Plan.{Suits};
 
-mod beside;
 mod device_watch;
 mod handed;
 mod lock_guard;
 mod meter;
 mod opening;
+mod second_handle;
 mod server_log;
 mod serving;
 mod status_client;
@@ -324,7 +324,7 @@ where
         Err(fault) => return no_file(rt, teller, path, fault),
     };
     // If the system has no second handle left reads wait for the first one.
-    let beside = opened.file.try_clone().ok();
+    let second_handle = opened.file.try_clone().ok();
     let (disk, _locks) = disk_of(rt, teller, opened, path);
     serve_at(
         rt,
@@ -332,7 +332,7 @@ where
         teller,
         path,
         disk,
-        beside,
+        second_handle,
         guard.as_ref(),
         addresses,
         status,

@@ -1,9 +1,9 @@
 //! The sockets of a server.
 
-use crate::beside::SecondHandle;
 use crate::handed;
 use crate::lock_guard::LockGuard;
 use crate::meter::Meter;
+use crate::second_handle::SecondHandle;
 use crate::server_log::{LogLines, ServerLog, ServerWatch};
 use crate::status_socket::StatusSocket;
 use crate::teller::Teller;
@@ -38,7 +38,7 @@ pub fn serve_at<R: Threads + Wait + Clock + Copy + Send + Sync + Drop + 'static>
     teller: Teller,
     path: &str,
     disk: FileDisk<ToldFile<'_, File, HostRuntime>>,
-    beside: Option<File>,
+    second_handle: Option<File>,
     guard: Option<&LockGuard<'_>>,
     addresses: &[Address<'_>],
     status: Option<&str>,
@@ -53,10 +53,27 @@ pub fn serve_at<R: Threads + Wait + Clock + Copy + Send + Sync + Drop + 'static>
         Err(refusal) => Err(refusal),
         Ok(name) => match status {
             None => serve_logged(
-                rt, teller, log, disk, beside, guard, addresses, &name, options,
+                rt,
+                teller,
+                log,
+                disk,
+                second_handle,
+                guard,
+                addresses,
+                &name,
+                options,
             ),
             Some(at) => serve_told(
-                rt, teller, log, disk, beside, guard, at, addresses, &name, options,
+                rt,
+                teller,
+                log,
+                disk,
+                second_handle,
+                guard,
+                at,
+                addresses,
+                &name,
+                options,
             ),
         },
     };
@@ -116,7 +133,7 @@ fn serve_told<R: Threads + Wait + Clock + Copy + Send + Sync + Drop + 'static>(
     teller: Teller,
     log: ServerLog<'_, R>,
     disk: FileDisk<ToldFile<'_, File, HostRuntime>>,
-    beside: Option<File>,
+    second_handle: Option<File>,
     guard: Option<&LockGuard<'_>>,
     status: &str,
     addresses: &[Address<'_>],
@@ -129,7 +146,15 @@ fn serve_told<R: Threads + Wait + Clock + Copy + Send + Sync + Drop + 'static>(
     let socket = open_status(rt, teller, log.path(), status, &meter)?;
     let log = log.with_status(&socket);
     let outcome = serve_logged(
-        rt, teller, log, disk, beside, guard, addresses, name, options,
+        rt,
+        teller,
+        log,
+        disk,
+        second_handle,
+        guard,
+        addresses,
+        name,
+        options,
     );
     // If it can't be removed the next server replaces it.
     let _ = fs::remove_file(rt, status);
@@ -160,7 +185,7 @@ fn serve_logged<'a, R: Threads + Wait + Clock + Copy + Send + Sync + Drop + 'sta
     teller: Teller,
     log: ServerLog<'a, R>,
     disk: FileDisk<ToldFile<'a, File, HostRuntime>>,
-    beside: Option<File>,
+    second_handle: Option<File>,
     guard: Option<&'a LockGuard<'a>>,
     addresses: &[Address<'_>],
     name: &Name,
@@ -171,7 +196,7 @@ fn serve_logged<'a, R: Threads + Wait + Clock + Copy + Send + Sync + Drop + 'sta
         Some(guard) => Some(guard.watch),
         None => None,
     };
-    let beside = match beside {
+    let second_handle = match second_handle {
         Some(file) => Some(SecondHandle {
             file: WatchedFile {
                 file,
@@ -193,7 +218,7 @@ fn serve_logged<'a, R: Threads + Wait + Clock + Copy + Send + Sync + Drop + 'sta
             None => None,
         },
     };
-    match open_device(rt, log, FileDisk::new(file, size), beside) {
+    match open_device(rt, log, FileDisk::new(file, size), second_handle) {
         Ok(device) => listen(
             rt, threads, teller, log, guard, device, addresses, name, options,
         ),
@@ -209,7 +234,7 @@ fn open_device<'a, 'b, R: Wait + Clock>(
     rt: &HostRuntime,
     log: ServerLog<'b, R>,
     disk: ServedDisk<'a, R>,
-    beside: Option<SecondHandle<'b, R>>,
+    second_handle: Option<SecondHandle<'b, R>>,
 ) -> Result<OpenDevice<ServedDisk<'a, R>, SecondHandle<'b, R>>, Refusal> {
     let mut disk = disk;
     let base = if log.is_verbose() {
@@ -218,7 +243,7 @@ fn open_device<'a, 'b, R: Wait + Clock>(
         None
     };
     let start = Instant::now(rt);
-    match OpenDevice::open(rt.alloc(), disk, beside) {
+    match OpenDevice::open(rt.alloc(), disk, second_handle) {
         Ok(device) => {
             if let (Some(base), Ok(start)) = (base, start) {
                 let commands = device.keeper.count().saturating_sub(base);

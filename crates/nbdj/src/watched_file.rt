@@ -24,7 +24,7 @@ impl<'a, F: FileExt + OpenFile + Drop, R: Wait + Clock> WatchedFile<'a, F, R> {
         let Some(watch) = self.watch else {
             return self.file.sync_data();
         };
-        let _sole = watch.hold_syncs(self.rt);
+        let _sole = watch.lock_syncs(self.rt);
         let place = watch.begin(self.rt)?;
         let synced = self.file.sync_data();
         watch.end(self.rt, place)?;

@@ -13,7 +13,7 @@ use Rattle.export_steps.specs.Parts.{IsOrderOf}
 use Rattle.request_core.specs.laws.Commands.{all_behind}
 use Rattle.export_model.specs.declared.connection.Connection.TheVariants.{Waiting}
 use Rattle.export_model.specs.declared.event.Event.{Event}
-use Rattle.export_model.specs.declared.event.Event.TheVariants.{Took, Held, Failed}
+use Rattle.export_model.specs.declared.event.Event.TheVariants.{Took, Skipped, Failed}
 use Rattle.export_model.specs.declared.event.StepFault.TheVariants as fault
 use Rattle.export_model.specs.declared.step.Step.{Step}
 use Rattle.export_model.specs.Run.{IsRun}
@@ -235,7 +235,7 @@ module _ (world : World) (within : IsWithin world) (takes : AreChanges world.sta
         ((event : Event) → next.log ≡ sealed.log ++ event ∷ [] → event ≡ Failed fault.NoMemory)
         ⊎ (((next.stage.stopped ≡ true) × ((event : Event) → next.log ≡ sealed.log ++ event ∷ [] → event ≡ Failed fault.DeviceFault))
         ⊎ (IsStored next
-        ⊎ ((next.stage.durable ≡ world.stage.durable) × ((event : Event) → next.log ≡ sealed.log ++ event ∷ [] → event ≡ Held) × HasFullArea sealed × (next.stage.sealed ≡ next.stage.stored))))
+        ⊎ ((next.stage.durable ≡ world.stage.durable) × ((event : Event) → next.log ≡ sealed.log ++ event ∷ [] → event ≡ Skipped) × HasFullArea sealed × (next.stage.sealed ≡ next.stage.stored))))
 
     stored_as : (failure : Failure) → IsAppendedAs (stored_more failure sealed)
     stored_as OutOfMemory = inl (λ event log. sym (last_same sealed.log (Failed fault.NoMemory) event log))
@@ -249,7 +249,7 @@ module _ (world : World) (within : IsWithin world) (takes : AreChanges world.sta
         (λ on. of_test IsAppendedAs (fits sealed) _ _ (λ fit. stored_as failure)
         (λ full. inr (inr (inr (
           is_sealed.durable,
-          λ event log. sym (last_same sealed.log Held event log),
+          λ event log. sym (last_same sealed.log Skipped event log),
           record { works = is_sealed.works_on; hand = ltb-true sealed.stage.stored sealed.stage.sealed hand; full = full },
           refl,
         ))))))
@@ -269,10 +269,10 @@ module _ (world : World) (within : IsWithin world) (takes : AreChanges world.sta
         (λ none. absurd (omega (arith, ltb-false next.stage.durable next.stage.stored none, is.durable, is.stored)))
 
     -- where nothing was published, or all is
-    held_or_on : (next : World) (event : Event) → next.stage.durable ≡ world.stage.durable → (publish next).log ≡ next.log ++ event ∷ [] → (event ≡ Held) ⊎ GetsOn world (publish next)
-    held_or_on next event level = of_test (λ (w : World). w.log ≡ next.log ++ event ∷ [] → (event ≡ Held) ⊎ GetsOn world w) (nat_lt next.stage.durable next.stage.stored) _ _
+    held_or_on : (next : World) (event : Event) → next.stage.durable ≡ world.stage.durable → (publish next).log ≡ next.log ++ event ∷ [] → (event ≡ Skipped) ⊎ GetsOn world (publish next)
+    held_or_on next event level = of_test (λ (w : World). w.log ≡ next.log ++ event ∷ [] → (event ≡ Skipped) ⊎ GetsOn world w) (nat_lt next.stage.durable next.stage.stored) _ _
         (λ more log. inr (inr (omega (arith, ltb-true next.stage.durable next.stage.stored more, level))))
-        (λ none log. inl (sym (last_same next.log Held event log)))
+        (λ none log. inl (sym (last_same next.log Skipped event log)))
 
     stays_stopped : (next : World) → next.stage.stopped ≡ true → GetsOn world (publish next)
     stays_stopped next is = of_test (GetsOn world) (nat_lt next.stage.durable next.stage.stored) _ _ (λ more. inl is) (λ none. inl is)
@@ -290,18 +290,18 @@ module _ (world : World) (within : IsWithin world) (takes : AreChanges world.sta
       shown_as (Ok true) told (inr (inr (inl stored))) = gets_on appended stored
       shown_as (Ok true) told (inr (inr (inr (level, event, full, back)))) = either (held_or_on appended published_event level published_log)
         where
-          either : (published_event ≡ Held) ⊎ GetsOn world (publish appended) → GetsOn world (publish appended)
+          either : (published_event ≡ Skipped) ⊎ GetsOn world (publish appended) → GetsOn world (publish appended)
           either (inl held) = absurd (told.2 (event appended_event appended_log) held)
           either (inr on) = on
       shown_as (Ok false) (sealing, appending, publishing) came = unfit came
         where
-          memory_unlike : Held ≡ Failed fault.NoMemory → ⊥
+          memory_unlike : Skipped ≡ Failed fault.NoMemory → ⊥
           memory_unlike is = cc
 
-          device_unlike : Held ≡ Failed fault.DeviceFault → ⊥
+          device_unlike : Skipped ≡ Failed fault.DeviceFault → ⊥
           device_unlike is = cc
 
-          took_unlike : Held ≡ Took → ⊥
+          took_unlike : Skipped ≡ Took → ⊥
           took_unlike is = cc
 
           unfit : IsAppendedAs appended → IsUnfit world (publish appended)

@@ -26,7 +26,7 @@ use Rattle.export_model.specs.Log.{StandsAt}
 use Rattle.export_model.specs.Run.{IsReached, Fresh}
 use Rattle.export_model.specs.World.{Setting, World}
 use Rattle.export_model.specs.declared.event.Event.{Event}
-use Rattle.export_model.specs.declared.event.Event.TheVariants.{Sent, Answered, Numbered, Took, Held, Failed}
+use Rattle.export_model.specs.declared.event.Event.TheVariants.{Sent, Answered, Numbered, Took, Skipped, Failed}
 use Rattle.export_model.specs.declared.step.Mode.{Mode}
 use Rattle.export_model.specs.Law.{HasFailed, IsWithin, TellsFault, TellsTruth}
 use Rattle.nbdj_pipe.specs.Causes.{HasCause}
@@ -51,7 +51,7 @@ module _ (P : Event → Type 0) where
   each_said (Answered c answer ∷ log) each = (each 0 (Answered c answer) refl, each_said log (λ place event at. each (suc place) event at))
   each_said (Numbered c number ∷ log) each = each_said log (λ place event at. each (suc place) event at)
   each_said (Took ∷ log) each = each_said log (λ place event at. each (suc place) event at)
-  each_said (Held ∷ log) each = each_said log (λ place event at. each (suc place) event at)
+  each_said (Skipped ∷ log) each = each_said log (λ place event at. each (suc place) event at)
   each_said (Failed fault ∷ log) each = each_said log (λ place event at. each (suc place) event at)
 
 -- what each answer tells, of the exchanges of a talk

@@ -25,7 +25,7 @@ use Rattle.export_model.specs.declared.action.Action.TheVariants.{End}
 use Rattle.export_model.specs.declared.connection.Connection.{Connection}
 use Rattle.export_model.specs.declared.connection.Connection.TheVariants.{Idle, Requested, Waiting, Ready, Closed}
 use Rattle.export_model.specs.declared.event.Event.{Event}
-use Rattle.export_model.specs.declared.event.Event.TheVariants.{Sent, Answered, Numbered, Took, Held, Failed}
+use Rattle.export_model.specs.declared.event.Event.TheVariants.{Sent, Answered, Numbered, Took, Skipped, Failed}
 use Rattle.export_model.specs.declared.step.Step.{Step}
 use Rattle.export_model.specs.declared.step.Step.TheVariants as steps
 use Rattle.export_model.specs.declared.step.Step.TheVariants.{Send, Serve, Seal, Append, Publish, Rotate, Copy, Map, Finish, Clean}
@@ -45,7 +45,7 @@ spoken_on (Sent c request ∷ log) more = ap (λ (l : List Event). Sent c reques
 spoken_on (Answered c answer ∷ log) more = ap (λ (l : List Event). Answered c answer ∷ l) (spoken_on log more)
 spoken_on (Numbered c number ∷ log) more = spoken_on log more
 spoken_on (Took ∷ log) more = spoken_on log more
-spoken_on (Held ∷ log) more = spoken_on log more
+spoken_on (Skipped ∷ log) more = spoken_on log more
 spoken_on (Failed fault ∷ log) more = spoken_on log more
 
 -- the last of a list with one item more
@@ -117,7 +117,7 @@ module _ (world : World) where
   IsStill next = (next.connections ≡ world.connections) × ((event : Event) × (next.log ≡ world.log ++ event ∷ []) × (spoken (event ∷ []) ≡ []))
 
   still_held : IsStill (held world)
-  still_held = (refl, (Held, refl, refl))
+  still_held = (refl, (Skipped, refl, refl))
 
   still_sealed : (failure : Failure) → IsStill (sealed_more failure world)
   still_sealed OutOfMemory = (refl, (_, refl, refl))
@@ -137,7 +137,7 @@ module _ (world : World) where
   still_append : (failure : Failure) → IsStill (append failure world)
   still_append failure = of_test IsStill (nat_lt world.stage.stored world.stage.sealed) _ _
       (λ hand. of_test IsStill world.stage.stopped _ _ (λ stopped. (refl, (_, refl, refl)))
-      (λ works. of_test IsStill (fits world) _ _ (λ fit. still_stored failure) (λ full. (refl, (Held, refl, refl)))))
+      (λ works. of_test IsStill (fits world) _ _ (λ fit. still_stored failure) (λ full. (refl, (Skipped, refl, refl)))))
       (λ none. still_held)
 
   still_publish : IsStill (publish world)
@@ -175,15 +175,15 @@ module _ (world : World) where
   abbrev pub IsServedAs : Message → Result Action Errno → World → Type 0
   IsServedAs request given next = ((next ≡ held world) × (given ≡ Ok Action.Serve) × (world.stage.stopped ≡ false) × (is_write request ≡ true)
       × (failure : Failure) × (has_room world (becomes (edit_asked request) (image_shown failure world.stage)) ≡ false))
-      ⊎ (IsJudged request.head given (next.connections 0) × ((event : Event) × (next.log ≡ world.log ++ event ∷ []) × (spoken (event ∷ []) ≡ []) × (event ≡ Held → ⊥)))
+      ⊎ (IsJudged request.head given (next.connections 0) × ((event : Event) × (next.log ≡ world.log ++ event ∷ []) × (spoken (event ∷ []) ≡ []) × (event ≡ Skipped → ⊥)))
 
   put_here : (state : Connection) → put world.connections 0 state 0 ≡ state
   put_here state = refl
 
-  took_apart : Took ≡ Held → ⊥
+  took_apart : Took ≡ Skipped → ⊥
   took_apart is = cc
 
-  numbered_apart : (c number : ℕ) → Numbered c number ≡ Held → ⊥
+  numbered_apart : (c number : ℕ) → Numbered c number ≡ Skipped → ⊥
   numbered_apart c number is = cc
 
   served_waits : (request : Message) (command : Change) (waits : Bool) (number : ℕ) → IsAnswerOf request.head Done

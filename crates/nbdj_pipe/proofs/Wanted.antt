@@ -1,7 +1,7 @@
 -- that a header was wanted where no generation is left for one
 use Rattle.std.proofs.Common.{◌≡◌, ◌⊎◌, inl, inr, ◌+◌, ◌-◌, ◌==◌, ◌&&◌, Bool, true, false, nat_lt, List, [], ◌∷◌, ◌++◌, length}
 use Rattle.export_model.specs.declared.event.Event.{Event}
-use Rattle.export_model.specs.declared.event.Event.TheVariants.{Took, Held, Failed}
+use Rattle.export_model.specs.declared.event.Event.TheVariants.{Took, Skipped, Failed}
 use Rattle.export_model.specs.declared.event.StepFault.TheVariants as fault
 use Rattle.export_model.specs.declared.step.Step.{Step}
 use Rattle.export_model.specs.declared.step.Step.TheVariants.{Send, Serve, Answer, Seal, Append, Publish, Rotate, Copy, Map, Finish, Clean}
@@ -29,8 +29,8 @@ module _ (world : World) where
   took : ShowsIn (world.log ++ Took ∷ [])
   took = other Took (λ e. cc)
 
-  held_so : ShowsIn (world.log ++ Held ∷ [])
-  held_so = other Held (λ e. cc)
+  held_so : ShowsIn (world.log ++ Skipped ∷ [])
+  held_so = other Skipped (λ e. cc)
 
   starved : ShowsIn (world.log ++ Failed fault.NoMemory ∷ [])
   starved = other (Failed fault.NoMemory) (λ e. cc)

@@ -13,7 +13,7 @@ use Rattle.nbd_wire.specs.declared.message.Run.{Run}
 use Rattle.nbd_wire.specs.declared.message.SessionFlags.{SessionFlags}
 use Rattle.export_model.specs.declared.action.Action.{Action}
 use Rattle.export_model.specs.declared.event.Event.{Event}
-use Rattle.export_model.specs.declared.event.Event.TheVariants.{Sent, Answered, Numbered, Took, Held, Failed}
+use Rattle.export_model.specs.declared.event.Event.TheVariants.{Sent, Answered, Numbered, Took, Skipped, Failed}
 use Rattle.export_model.specs.Verdict.{verdict}
 
 -- what a log says of requests and answers: the events that send or answer one
@@ -23,7 +23,7 @@ spoken (Sent connection request ∷ log) = Sent connection request ∷ spoken lo
 spoken (Answered connection answer ∷ log) = Answered connection answer ∷ spoken log
 spoken (Numbered connection number ∷ log) = spoken log
 spoken (Took ∷ log) = spoken log
-spoken (Held ∷ log) = spoken log
+spoken (Skipped ∷ log) = spoken log
 spoken (Failed fault ∷ log) = spoken log
 
 -- a request and its answer

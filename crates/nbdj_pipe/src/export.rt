@@ -45,8 +45,8 @@ fn stored(sealed: &Event, appended: &Event, published: &Event) -> Result<bool, R
             StepFault::DeviceFault | StepFault::NumbersFull | StepFault::FailedBefore => Ok(true),
         },
         // Nothing was stored now, and nothing earlier that wasn't published: the group doesn't fit.
-        Event::Held => match published {
-            Event::Held => Ok(false),
+        Event::Skipped => match published {
+            Event::Skipped => Ok(false),
             _ => Ok(true),
         },
         _ => Ok(true),
@@ -198,7 +198,7 @@ impl<B: BoardName, D: Disk> Export<B, D> {
     }
 
     // Carries the checkpoint of the first of several areas in use to its end.
-    fn finish_first(&mut self) -> Result<(), Refusal>
+    fn complete_first(&mut self) -> Result<(), Refusal>
         requires group { IfSome self.old.connections.group (IsInHand self.old.order) }
         ensures group { IfSome self.new.connections.group (IsInHand self.new.order) }
         ensures extent { D.extent self.new.keeper.disk ≡ D.extent self.old.keeper.disk }
@@ -217,7 +217,7 @@ impl<B: BoardName, D: Disk> Export<B, D> {
     }
 
     // Carries the checkpoints that have begun to their end: at most three areas stand before the last.
-    fn finish_checkpoint(&mut self) -> Result<(), Refusal>
+    fn complete_checkpoint(&mut self) -> Result<(), Refusal>
         requires group { IfSome self.old.connections.group (IsInHand self.old.order) }
         ensures group { IfSome self.new.connections.group (IsInHand self.new.order) }
         ensures extent { D.extent self.new.keeper.disk ≡ D.extent self.old.keeper.disk }
@@ -230,9 +230,9 @@ impl<B: BoardName, D: Disk> Export<B, D> {
     {
         leads_law::<D>();
         schedule_law();
-        self.finish_first()?;
-        self.finish_first()?;
-        self.finish_first()
+        self.complete_first()?;
+        self.complete_first()?;
+        self.complete_first()
     }
 
     // Moves all that is stored into map and data, and lets the frames of it go. A checkpoint that was begun earlier, and for
@@ -250,9 +250,9 @@ impl<B: BoardName, D: Disk> Export<B, D> {
     {
         leads_law::<D>();
         schedule_law();
-        self.finish_checkpoint()?;
+        self.complete_checkpoint()?;
         self.turn(Step::Rotate)?;
-        self.finish_checkpoint()?;
+        self.complete_checkpoint()?;
         let_go(self.store_step(Step::Clean));
         Ok(())
     }
@@ -287,7 +287,7 @@ impl<B: BoardName, D: Disk> Export<B, D> {
     fn is_settled(&self) -> bool
         ensures { IsTrue result ↔ IsSettled self.now.order }
     {
-        self.order.stopped() || self.order.durable() == self.order.mark()
+        self.order.is_stopped() || self.order.durable() == self.order.mark()
     }
 
     // Stores the next group, after a checkpoint where it doesn't fit the area.
@@ -361,7 +361,7 @@ impl<B: BoardName, D: Disk> Export<B, D> {
             × Follows world next [] self.new.order self.new.keeper (D.faults self.new.keeper.disk) self.new.connections
             (Trusts trusted (D.honest self.new.keeper.disk)) (D.state self.old.keeper.disk) (D.state self.new.keeper.disk) }
     {
-        if let Event::Held = self.step(Step::Serve(0)) {
+        if let Event::Skipped = self.step(Step::Serve(0)) {
             return false;
         }
         true

@@ -306,7 +306,7 @@ impl<B: BoardName, D: Disk> Session<B, D> {
             × IsEndShown end result world next }
     {
         let stored = self.export.store_all();
-        outcome(end, stored, self.export.order.stopped())
+        outcome(end, stored, self.export.order.is_stopped())
     }
 }
 

@@ -33,7 +33,7 @@ pub fn judge(
         let mut work = restored(judged.disk, found);
         work.stop_at(k);
         let mut left = open_up(alloc, work)?;
-        let stopped = left.stopped();
+        let stopped = left.is_stopped();
         left.stop_at(0);
         left.crash(choice);
         judged = judge_opening(alloc, left, promise)?;

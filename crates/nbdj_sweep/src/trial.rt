@@ -125,7 +125,7 @@ impl Trial {
 // Whether this trouble was met on a device that nothing else was to fail on.
 fn is_met(trouble: Trouble, disk: &SimDisk) -> bool {
     match trouble {
-        Trouble::Stop(_) => disk.stopped(),
+        Trouble::Stop(_) => disk.is_stopped(),
         Trouble::Fault(..) => disk.failures() > 0,
     }
 }

@@ -42,7 +42,7 @@ pub fn negotiate<R: Read, W: Write>(
         if !requests.is_empty() {
             return Ok(requests);
         }
-        if session.is_behind() {
+        if session.is_handshake_over() {
             return Ok(requests);
         }
         requests = hear(input, output, session, piece, due)?;

@@ -136,13 +136,13 @@ fn answer<P, S: Serve<P>, W: Write>(
     let head = request.head();
     let reply = reply_to(export, pass, flags, request);
     let bytes = encode_before_data(&reply, flags, head.kind, is_whole(&head), due)?;
-    write_behind(output, due, bytes)?;
+    write_after_due(output, due, bytes)?;
     export.reuse(reply);
     Ok(())
 }
 
 // Writes what is due and these bytes after it, so that they can go out together; not where there are none.
-fn write_behind<W: Write>(
+fn write_after_due<W: Write>(
     output: &mut W,
     due: &mut Vec<u8>,
     bytes: &[u8],

@@ -135,7 +135,7 @@ impl Session {
     }
 
     /// Whether the handshake is over.
-    pub fn is_behind(&self) -> bool
+    pub fn is_handshake_over(&self) -> bool
         ensures { IsTrue result ↔ IsBehind self.now.standing }
     {
         match self.stage {

@@ -24,7 +24,7 @@ use Rattle.order_book.specs.inner.Edits.{edge_bytes, edges_given, put_bytes, zer
 use Rattle.order_book.specs.Reading.{IsCleanAt}
 use Rattle.order_book.specs.Shown.{ShowsImage}
 use Rattle.order_book.specs.laws.Edited.{IsSameFor, byte-image_with}
-use Rattle.order_book.proofs.Imaged.{bytes_read}
+use Rattle.order_book.proofs.ReadsShowImage.{bytes_read}
 
 -- a block of which old bytes are needed is the first that the edit touches, or the last
 in_part_ends : (offset count block : ℕ) → 1 ≤ count → is_in_part offset count block ≡ true → (block ≡ offset / 4096) ⊎ (block ≡ (offset + count - 1) / 4096)

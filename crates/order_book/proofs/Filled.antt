@@ -2,7 +2,7 @@
 use Rattle.std.proofs.Common.{◌≡◌, inl, inr, ◌<◌, ◌+◌, ◌*◌, ◌∙◌, ap, sym, ℕ, Bool, if◌then◌else◌, List, length, Some}
 use Rattle.std.proofs.lemmas.Bool.{cases_Bool}
 use Rattle.std.proofs.lemmas.Bool.Decides.{eqb_tells}
-use Rattle.shared_cache.specs.Blocks.{DirtyBlock, is_dirty, is_held}
+use Rattle.shared_cache.specs.Blocks.{DirtyBlock, is_dirty, is_cached}
 use Rattle.shared_cache.specs.Cache.{CacheState, bytes_seen}
 use Rattle.shared_cache.specs.View.{ShowsFill}
 use Rattle.order_book.specs.Reading.{KeepsOrReads, block_of}
@@ -24,8 +24,8 @@ pub each_filled : (first offset : ℕ) (bytes given : List ℕ) (old mid new : C
     → (block : ℕ) → KeepsOrReads first bytes old new block
 each_filled first offset bytes given old mid new inside is dirty each shows block = elim (eqb_tells block (first + offset)) [
   | inl p ↦
-      let own : bytes_seen new block ≡ (if is_held block mid.blocks then bytes_seen mid block else Some given) = ap (λ (b : ℕ). bytes_seen new b) p.1 ∙ shows.filled ∙ sym (ap (λ (b : ℕ). if is_held b mid.blocks then bytes_seen mid b else Some given) p.1) in
-      elim (cases_Bool (is_held block mid.blocks)) [
+      let own : bytes_seen new block ≡ (if is_cached block mid.blocks then bytes_seen mid block else Some given) = ap (λ (b : ℕ). bytes_seen new b) p.1 ∙ shows.filled ∙ sym (ap (λ (b : ℕ). if is_cached b mid.blocks then bytes_seen mid b else Some given) p.1) in
+      elim (cases_Bool (is_cached block mid.blocks)) [
         | inl held ↦ same_kept first bytes old mid new block (own ∙ ap (λ (b : Bool). if b then bytes_seen mid block else Some given) held) (each block)
         | inr none ↦ inr (inr (offset, inside, p.1, own ∙ ap (λ (b : Bool). if b then bytes_seen mid block else Some given) none ∙ ap Some is))
       ]

@@ -25,7 +25,7 @@ use Rattle.image_model.specs.Dirty.{Dirty, clean_through, dirty_after, frames_su
 use Rattle.image_model.specs.Image.{blocks_of, covers, last_of, touches}
 use Rattle.image_model.specs.laws.DirtyMaps.{get-with_blocks, given, len-with_blocks_more, with_blocks_none}
 use Rattle.image_model.specs.laws.Positions.{length-patched}
-use Rattle.shared_cache.specs.Blocks.{BlocksState, DirtyBlock, IsOnce, as_clean, at_hand, cleaned, count_missing, dirty_outside, edges_missing, is_clean, is_dirty, is_held, times_in, with_put, with_puts, without}
+use Rattle.shared_cache.specs.Blocks.{BlocksState, DirtyBlock, IsOnce, as_clean, available_frames, cleaned, count_missing, dirty_outside, edges_missing, is_clean, is_dirty, is_cached, times_in, with_put, with_puts, without}
 use Rattle.shared_cache.specs.Cache.{CacheState}
 use Rattle.shared_cache.specs.laws.Edges.{length-with_edges, room_at_head, room_at_tail}
 use Rattle.shared_cache.specs.laws.Once.{times_in-append}
@@ -238,7 +238,7 @@ is_dirty-pairs block (held ∷ dirty) = λ i. turned_round block held.block i ||
     turned_round a b = grind (arith, nat_tests)
 
 -- a block that isn't held isn't dirty, and one that isn't dirty has no number
-pub not_dirty : (block : ℕ) (s : BlocksState) → is_held block s ≡ false → is_dirty block s ≡ false
+pub not_dirty : (block : ℕ) (s : BlocksState) → is_cached block s ≡ false → is_dirty block s ≡ false
 not_dirty block s is = or_none (is_clean block s) (is_dirty block s) is
   where
     or_none : (one other : Bool) → (one || other) ≡ false → other ≡ false
@@ -295,7 +295,7 @@ len-puts number first (suc count) s once =
 frames-without : (inside : ℕ → Bool) (s : BlocksState) → let left = without inside s in left.free + length left.clean + length left.dirty ≡ s.free + length s.clean + length s.dirty
 frames-without inside s = omega (arith, clean_le inside s.clean, outside_le inside s.dirty)
 
-frames-put : (number block : ℕ) (bytes : List ℕ) (s : BlocksState) → (if is_dirty block s then 0 else 1) ≤ at_hand s
+frames-put : (number block : ℕ) (bytes : List ℕ) (s : BlocksState) → (if is_dirty block s then 0 else 1) ≤ available_frames s
     → let new = with_put number block bytes s in new.free + length new.clean + length new.dirty ≡ s.free + length s.clean + length s.dirty
 frames-put number block bytes s enough =
     let left = without (λ b. b == block) s in
@@ -306,7 +306,7 @@ frames-put number block bytes s enough =
     let same = frames-without (λ b. b == block) s in
     omega (arith, enough, less, dropped, more, same, clean_le (λ b. b == block) s.clean, outside_le (λ b. b == block) s.dirty)
 
-frames-puts : (number first : ℕ) (blocks : List (List ℕ)) (s : BlocksState) → count_missing first (length blocks) s ≤ at_hand s
+frames-puts : (number first : ℕ) (blocks : List (List ℕ)) (s : BlocksState) → count_missing first (length blocks) s ≤ available_frames s
     → let new = with_puts number first blocks s in new.free + length new.clean + length new.dirty ≡ s.free + length s.clean + length s.dirty
 frames-puts number first [] s enough = refl
 frames-puts number first (bytes ∷ blocks) s enough =
@@ -410,7 +410,7 @@ len-written image cache number (Edged first blocks kind edges bytes) is once = l
 
 -- whether a command finds frames
 pub finds_frames : (image : ℕ) (cache : CacheState) (number : ℕ) (change : Change) (found : Bool) → IsChange image change → IsOnce cache.blocks
-    → IsTrue found ↔ (missing_of change cache.blocks ≤ at_hand cache.blocks)
+    → IsTrue found ↔ (missing_of change cache.blocks ≤ available_frames cache.blocks)
     → found ≡ nat_le (len (with_written (dirty_of cache) number change)) (frames_of cache)
 finds_frames image cache number change found is once enough =
     let size = len-written image cache number change is once in
@@ -423,7 +423,7 @@ finds_frames image cache number change found is once enough =
 
 -- and where it does
 pub frames_enough : (image : ℕ) (cache : CacheState) (number : ℕ) (change : Change) → IsChange image change → IsOnce cache.blocks
-    → frames_suffice (frames_of cache) (dirty_of cache) number change ≡ true → missing_of change cache.blocks ≤ at_hand cache.blocks
+    → frames_suffice (frames_of cache) (dirty_of cache) number change ≡ true → missing_of change cache.blocks ≤ available_frames cache.blocks
 frames_enough image cache number (Written first bytes) is once enough =
     let within = leb-true _ _ enough in omega (arith, within, len-written image cache number (Written first bytes) is once)
 frames_enough image cache number (Cleared first blocks kind) is once enough = omega arith
@@ -431,7 +431,7 @@ frames_enough image cache number (Edged first blocks kind edges bytes) is once e
     let within = leb-true _ _ enough in omega (arith, within, len-written image cache number (Edged first blocks kind edges bytes) is once)
 
 -- the frames stay
-pub frames-after : (image : ℕ) (cache : CacheState) (number : ℕ) (change : Change) → IsChange image change → missing_of change cache.blocks ≤ at_hand cache.blocks
+pub frames-after : (image : ℕ) (cache : CacheState) (number : ℕ) (change : Change) → IsChange image change → missing_of change cache.blocks ≤ available_frames cache.blocks
     → frames_of (cache_after cache number change) ≡ frames_of cache
 frames-after image cache number (Written first bytes) is enough =
     frames-puts number first (blocks_in bytes) cache.blocks
@@ -447,7 +447,7 @@ frames-after image cache number (Edged first blocks kind edges bytes) is enough 
     let fits : length head + length tail ≤ blocks = omega (arith, in_head, in_tail, counts_fit edges blocks is.0) in
     let same : edges_missing first blocks (length head) (length tail) cache.blocks ≡ edges_missing first blocks (head_count edges) (tail_count edges) cache.blocks =
     λ i. edges_missing first blocks (in_head i) (in_tail i) cache.blocks in
-    let room : edges_missing first blocks (length head) (length tail) cache.blocks ≤ at_hand cache.blocks = omega (arith, enough, same) in
+    let room : edges_missing first blocks (length head) (length tail) cache.blocks ≤ available_frames cache.blocks = omega (arith, enough, same) in
     frames-puts number (first + blocks - length tail) tail (with_puts number first head cleared)
     (room_at_tail number first blocks (length tail) head cache.blocks cleared (with_puts number first head cleared) fits room refl refl)
     ∙ frames-puts number first head cleared (room_at_head first blocks (length head) (length tail) cache.blocks cleared fits room refl)

@@ -8,7 +8,7 @@ use Rattle.image_model.specs.declared.command.Edges.TheVariants.{Head, Tail, Bot
 use Rattle.image_model.specs.Change.{Change, Written, Cleared, Edged, edge_count}
 use Rattle.image_model.specs.Dirty.{Dirty}
 use Rattle.image_model.specs.Image.{blocks_of, data_of, kind_given, kind_in, slot, touches, writes}
-use Rattle.shared_cache.specs.Blocks.{DirtyBlock, cleaned, is_dirty, is_held}
+use Rattle.shared_cache.specs.Blocks.{DirtyBlock, cleaned, is_dirty, is_cached}
 use Rattle.shared_cache.specs.Cache.{CacheState, bytes_seen, with_cleared, with_edges, with_written}
 use Rattle.shared_cache.specs.View.{KeepsBytes}
 
@@ -47,7 +47,7 @@ pub record ShowsCommand (change : Change) (old new : CacheState) : Type 0 where
   pub states : (block : ℕ) → state_at new.states block
       ≡ (if touches block change then kind_in (slot block change) (kind_given change) else state_at old.states block)
   pub touched : (block : ℕ) → touches block change ≡ true → bytes_seen new block ≡ Some (bytes_in (slot block change) (data_of change))
-  pub cleared : (block : ℕ) → touches block change ≡ true → writes block change ≡ false → is_held block new.blocks ≡ false
+  pub cleared : (block : ℕ) → touches block change ≡ true → writes block change ≡ false → is_cached block new.blocks ≡ false
   pub others : (block : ℕ) → touches block change ≡ false → KeepsBytes (count_written change) old new block
   pub dirty : (block : ℕ) → is_dirty block new.blocks ≡ (if touches block change then writes block change else is_dirty block old.blocks)
 

@@ -21,7 +21,7 @@ use Rattle.order_book.specs.Reading.{IsCleanAt}
 use Rattle.order_book.specs.Shown.{ShowsImage}
 use Rattle.order_book.specs.declared.fault.OrderFault.{OrderFault}
 use Rattle.order_book.specs.declared.fault.OrderFault.TheVariants.{NoMemory, DeviceFault, NumbersFull, Failed, NoRoom, Stopped}
-use Rattle.shared_cache.specs.Blocks.{is_held}
+use Rattle.shared_cache.specs.Blocks.{is_cached}
 use Rattle.shared_cache.specs.Cache.{CacheState, bytes_seen}
 
 -- whether an edit needs the old bytes of a block: it puts or zeroes some of its bytes, and not all of them
@@ -35,7 +35,7 @@ needs_old (BytesTrimmed offset count) block = false
 
 -- The edit needs the old bytes of the block, which is data and held by no frame.
 abbrev pub IsMissing : ByteEdit → CacheState → ℕ → Type 0
-IsMissing edit cache block = (needs_old edit block ≡ true) × (state_at cache.states block ≡ Data) × (is_held block cache.blocks ≡ false)
+IsMissing edit cache block = (needs_old edit block ≡ true) × (state_at cache.states block ≡ Data) × (is_cached block cache.blocks ≡ false)
 
 -- There is such a block.
 abbrev pub LacksOld : ByteEdit → CacheState → Type 0

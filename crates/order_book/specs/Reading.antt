@@ -12,7 +12,7 @@ use Rattle.order_book.specs.Cached.{frames_of}
 use Rattle.order_book.specs.declared.kept.Kept.{Kept}
 use Rattle.order_book.specs.declared.kept.Kept.TheVariants.{All, NoMemory}
 use Rattle.order_book.specs.declared.span.Span.{Span}
-use Rattle.shared_cache.specs.Blocks.{at_hand, is_dirty, with_fill}
+use Rattle.shared_cache.specs.Blocks.{available_frames, is_dirty, with_fill}
 use Rattle.shared_cache.specs.Cache.{CacheState, bytes_seen}
 
 abbrev pub is_data : Kind → Bool
@@ -47,7 +47,7 @@ pub record ShowsRead (first : ℕ) (bytes : List ℕ) (old new : CacheState) : T
 -- front; where there is neither, or it is held or no data, nothing changes.
 abbrev pub with_kept : ℕ → List ℕ → CacheState → CacheState
 with_kept block bytes cache =
-    if is_data (state_at cache.states block) && not (at_hand cache.blocks == 0)
+    if is_data (state_at cache.states block) && not (available_frames cache.blocks == 0)
     then record { states = cache.states; blocks = with_fill block bytes cache.blocks }
     else cache
 

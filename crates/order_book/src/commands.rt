@@ -32,7 +32,7 @@ pub(crate) fn head_blocks(edges: Edges) -> usize
 }
 
 // A refusal where the frames are there: it is for want of memory.
-fn for_memory(kept: Result<(), KeepFault>) -> Result<(), AllocError>
+fn as_alloc_result(kept: Result<(), KeepFault>) -> Result<(), AllocError>
     requires { kept ≢ Err KeepFault.NoFrame }
     ensures { is_ok result ≡ is_ok kept }
 {
@@ -82,7 +82,7 @@ pub(crate) fn apply(cache: &mut Cache, command: &Command, number: u64) -> Result
     match command {
         Command::Put { first, bytes } => {
             let (blocks, _) = bytes.as_chunks::<4096>();
-            for_memory(cache.put(number, *first, blocks))
+            as_alloc_result(cache.put(number, *first, blocks))
         }
         Command::Clear {
             first,
@@ -101,7 +101,7 @@ pub(crate) fn apply(cache: &mut Cache, command: &Command, number: u64) -> Result
         } => {
             let (written, _) = bytes.as_chunks::<4096>();
             let (head, tail) = written.split_at(head_blocks(*edges));
-            for_memory(cache.clear_between(number, *first, *blocks as u64, *kind, head, tail))
+            as_alloc_result(cache.clear_between(number, *first, *blocks as u64, *kind, head, tail))
         }
     }
 }

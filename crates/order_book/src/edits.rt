@@ -27,7 +27,7 @@ use shared_cache::Cache;
 use std::alloc::{AllocError, Global};
 
 // The fault of an edit for which the device was to be read.
-pub(crate) fn of_keeper(fault: KeeperFault) -> OrderFault
+pub(crate) fn from_keeper_fault(fault: KeeperFault) -> OrderFault
     requires { (fault ≡ KeeperFault.DeviceFault) ⊎ (fault ≡ KeeperFault.Failed) }
     ensures device_fault { fault ≡ KeeperFault.DeviceFault → result ≡ OrderFault.DeviceFault }
     ensures failed { fault ≡ KeeperFault.Failed → result ≡ OrderFault.Failed }
@@ -409,7 +409,7 @@ fn edge_bytes(
 }
 
 // The command that zeroes become.
-fn zeroed(
+fn zero_command(
     alloc: Global,
     cache: &Cache,
     offset: u64,
@@ -445,7 +445,7 @@ fn zeroed(
 }
 
 // The command that a trim becomes: a clear of the blocks that lie wholly within it, or of none from its own block on.
-fn trimmed(offset: u64, count: u32) -> Command
+fn trim_command(offset: u64, count: u32) -> Command
     requires { offset + count < 2 ^ 63 }
     ensures { (image : Image) → change_of result ≡ becomes (BytesTrimmed offset count) image }
 {
@@ -487,8 +487,8 @@ pub(crate) fn command_for(
             offset,
             length,
             kind,
-        } => zeroed(alloc, cache, *offset, *length, *kind, head, tail),
-        Edit::Trim { offset, length } => Ok(trimmed(*offset, *length)),
+        } => zero_command(alloc, cache, *offset, *length, *kind, head, tail),
+        Edit::Trim { offset, length } => Ok(trim_command(*offset, *length)),
     }
 }
 

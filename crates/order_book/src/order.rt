@@ -29,7 +29,9 @@ use crate::commands::{apply, clean_through, has_frames};
 use crate::fault::OrderFault;
 use crate::kept::Kept;
 use crate::pending::{PendingCommands, have_small_bodies};
-use crate::reading::{holds, keep_blocks, missing_span, put_held, read_all_held, read_blocks};
+use crate::reading::{
+    holds, keep_blocks, missing_span, put_cached_over, read_all_in_memory, read_blocks,
+};
 use crate::span::Span;
 use alloc_map::{AllocMap, Run};
 use checkpoint::{Keeper, KeeperFault};
@@ -215,8 +217,8 @@ impl<B: BoardName> Order<B> {
     }
 
     /// How many frames hold a block, a clean or a dirty one. No clause says the number.
-    pub fn held_blocks(&self) -> usize {
-        self.cache.held_blocks()
+    pub fn cached_blocks(&self) -> usize {
+        self.cache.cached_blocks()
     }
 
     /// The seat that raises the accepted number, which knows the history. What memory holds is let go.
@@ -248,7 +250,7 @@ impl<B: BoardName> Order<B> {
     }
 
     /// Whether the order was stopped.
-    pub fn stopped(&self) -> bool
+    pub fn is_stopped(&self) -> bool
         ensures { result ≡ self.now.stopped }
     {
         self.stopped
@@ -541,7 +543,7 @@ impl<B: BoardName> Order<B> {
     }
 
     /// Reads blocks that are all in memory, from `first` on, as all that was accepted left them.
-    pub fn read_held(&self, first: u64, into: &mut [u8])
+    pub fn read_in_memory(&self, first: u64, into: &mut [u8])
         requires whole { length into.old % 4096 ≡ 0 }
         requires range { first + length into.old / 4096 ≤ length self.now.cache.states }
         requires held { LacksBytes self.now.cache first (length into.old / 4096) → ⊥ }
@@ -553,7 +555,7 @@ impl<B: BoardName> Order<B> {
             → slice_index into.new (4096 * j + k) ≡ image.byte (4096 * (first + j) + k) }
     {
         let _blocks = self.blocks();
-        read_all_held(&self.cache, first, into)
+        read_all_in_memory(&self.cache, first, into)
     }
 
     /// Reads blocks from `first` on, as all that was accepted left them: those in memory from there, and each run of the others
@@ -657,7 +659,7 @@ impl<B: BoardName> Order<B> {
             → ShowsImage image self.old.cache → IsCleanAt base front image self.old.dirty → IsTrue result → ShowsImage image self.new.cache }
     {
         let _blocks = self.blocks();
-        if !put_held(&self.cache, first, span, into) {
+        if !put_cached_over(&self.cache, first, span, into) {
             return false;
         }
         if span.end - span.first <= MOST_KEPT {

@@ -23,7 +23,7 @@ use shared_cache::{Cache, KeepFault};
 pub(crate) const BLOCK: usize = 4_096;
 
 // Reads blocks that are in memory, from this one of them on up to the first that isn't, which it tells.
-fn read_held(cache: &Cache, first: u64, from: usize, into: &mut [u8]) -> usize
+fn read_in_memory(cache: &Cache, first: u64, from: usize, into: &mut [u8]) -> usize
     requires whole { length into.old % 4096 ≡ 0 }
     requires range { first + length into.old / 4096 ≤ length cache.now.states }
     requires fits { first + length into.old / 4096 < 2 ^ 64 }
@@ -62,7 +62,7 @@ pub(crate) fn holds(cache: &Cache, first: u64, count: u64) -> bool
 }
 
 // Reads blocks that are all in memory.
-pub(crate) fn read_all_held(cache: &Cache, first: u64, into: &mut [u8])
+pub(crate) fn read_all_in_memory(cache: &Cache, first: u64, into: &mut [u8])
     requires whole { length into.old % 4096 ≡ 0 }
     requires range { first + length into.old / 4096 ≤ length cache.now.states }
     requires fits { first + length into.old / 4096 < 2 ^ 64 }
@@ -72,7 +72,7 @@ pub(crate) fn read_all_held(cache: &Cache, first: u64, into: &mut [u8])
     ensures in_memory { (j k : ℕ) (bytes : List ℕ) → 4096 * j < length into.new → k < 4096
         → bytes_seen cache.now (first + j) ≡ Some bytes → slice_index into.new (4096 * j + k) ≡ slice_index bytes k }
 {
-    read_held(cache, first, 0, into);
+    read_in_memory(cache, first, 0, into);
 }
 
 // The end of the run of blocks that aren't in memory, from this one of N on.
@@ -160,12 +160,12 @@ pub(crate) fn read_blocks<D: Disk>(
         → slice_index into.new (4096 * j + k) ≡ base.byte (4096 * (first + j) + k)) }
 {
     let blocks = into.len() / BLOCK;
-    let held = read_held(cache, first, 0, into);
+    let held = read_in_memory(cache, first, 0, into);
     let mut done = held;
     while done < blocks {
         let end = missing_end(cache, first, done, blocks);
         read_run(keeper, first, done, end, into)?;
-        done = read_held(cache, first, end, into);
+        done = read_in_memory(cache, first, end, into);
     }
     Ok(held)
 }
@@ -237,7 +237,7 @@ pub(crate) fn missing_span(cache: &Cache, first: u64, count: u64) -> Span
 
 // Puts what is in memory over bytes that were read of blocks. It isn't done where one that isn't in memory lies outside the
 // span; the slice then holds any bytes.
-pub(crate) fn put_held(cache: &Cache, first: u64, span: Span, into: &mut [u8]) -> bool
+pub(crate) fn put_cached_over(cache: &Cache, first: u64, span: Span, into: &mut [u8]) -> bool
     requires whole { length into.old % 4096 ≡ 0 }
     requires range { first + length into.old / 4096 ≤ length cache.now.states }
     requires fits { first + length into.old / 4096 < 2 ^ 64 }

@@ -39,7 +39,7 @@ impl Regions {
     }
 
     /// The area `places` places after this one in the ring.
-    pub fn area_behind(&self, area: u8, places: u8) -> u8
+    pub fn area_after(&self, area: u8, places: u8) -> u8
         requires area { area < areas_in self.now.geometry }
         requires places { places < areas_in self.now.geometry }
         ensures area { result ≡ behind (areas_in self.now.geometry) places area }

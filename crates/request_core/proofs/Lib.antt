@@ -1,13 +1,13 @@
 mod Bytes
 mod Clients
 mod Cuts
-mod Here
+mod ServedWithoutKeeper
 mod InMemory
 mod Joined
 mod Needing
 mod Olds
-mod Opened
-mod Owned
+mod FreshOrderShows
+mod AcceptedEdits
 mod Parts
 mod Passes
 mod Stretches

@@ -12,7 +12,7 @@ use nbd_wire::{CommandFlags, Request, RequestHead, WRITE, WRITE_ZEROES};
 use std::alloc::Global;
 
 // The head of a write request, and the edit that it asks for, which takes its data.
-pub(crate) fn split(request: Request) -> (RequestHead, Edit)
+pub(crate) fn split_request(request: Request) -> (RequestHead, Edit)
     requires write { is_write request ≡ true }
     ensures head { result.0 ≡ request.head }
     ensures edit { edit_of result.1 ≡ edit_asked request }
@@ -40,7 +40,7 @@ pub(crate) fn split(request: Request) -> (RequestHead, Edit)
 }
 
 // The request again, of which this is the edit.
-pub(crate) fn joined(alloc: Global, head: RequestHead, edit: Edit) -> Request
+pub(crate) fn join_request(alloc: Global, head: RequestHead, edit: Edit) -> Request
     requires back { IsHandedBack head edit }
     ensures { (request : Message) → request.head ≡ head → length request.bytes ≡ handed_len head → edit_of edit ≡ edit_asked request → result ≡ request }
 {

@@ -9,7 +9,7 @@ ghost use Rattle.shared_cache.specs.Cache.{LacksBytes, bytes_seen};
 use crate::answers::{bytes_answer, status_answer};
 use crate::judgement::judge;
 use crate::runs::read_runs;
-use crate::serving::{Served, Terms, refused};
+use crate::serving::{Served, Terms, refuse};
 use checkpoint::Keeper;
 use disk_model::Disk;
 use export_model::Action;
@@ -79,13 +79,13 @@ pub(crate) fn serve_held_read<B: BoardName>(
     ensures { IsHeldReadServed head.now order.now result }
 {
     let Ok(runs) = read_runs(alloc, order, head.offset, head.length) else {
-        return refused(head.cookie, Errno::NoMemory);
+        return refuse(head.cookie, Errno::NoMemory);
     };
     let blocks = Blocks::of(head);
     let Ok(mut bytes) = vec![in alloc; 0; blocks.bytes()] else {
-        return refused(head.cookie, Errno::NoMemory);
+        return refuse(head.cookie, Errno::NoMemory);
     };
-    order.read_held(blocks.first, &mut bytes);
+    order.read_in_memory(blocks.first, &mut bytes);
     cut(&mut bytes, head);
     Served::Ready(Reply {
         cookie: head.cookie,
@@ -113,15 +113,15 @@ pub(crate) fn serve_read<B: BoardName, D: Disk>(
     ensures honest { D.honest keeper.new.disk ↔ D.honest keeper.old.disk }
 {
     let Ok(runs) = read_runs(alloc, order, head.offset, head.length) else {
-        return refused(head.cookie, Errno::NoMemory);
+        return refuse(head.cookie, Errno::NoMemory);
     };
     let blocks = Blocks::of(head);
     let Ok(mut bytes) = vec![in alloc; 0; blocks.bytes()] else {
-        return refused(head.cookie, Errno::NoMemory);
+        return refuse(head.cookie, Errno::NoMemory);
     };
     let Ok(_kept) = order.read_with(keeper, blocks.first, &mut bytes) else {
         order.stop();
-        return refused(head.cookie, Errno::Io);
+        return refuse(head.cookie, Errno::Io);
     };
     cut(&mut bytes, head);
     Served::Ready(Reply {
@@ -147,7 +147,7 @@ pub(crate) fn serve_status<B: BoardName>(
             cookie: head.cookie,
             answer,
         }),
-        Err(_) => refused(head.cookie, Errno::NoMemory),
+        Err(_) => refuse(head.cookie, Errno::NoMemory),
     }
 }
 
@@ -194,11 +194,11 @@ pub fn serve_read_over<B: BoardName>(
     ensures back { IsErr result → (order.old.stopped ≡ true)
         ⊎ ((j : ℕ) × (j < blocks_met head.now.offset head.now.length) × (bytes_seen order.old.cache (head.now.offset / 4096 + j) ≡ None) × (LiesIn (head.now.offset / 4096 + j) span → ⊥)) }
 {
-    if order.stopped() {
+    if order.is_stopped() {
         return Err(bytes);
     }
     let Ok(runs) = read_runs(alloc, order, head.offset, head.length) else {
-        return Ok(refused(head.cookie, Errno::NoMemory));
+        return Ok(refuse(head.cookie, Errno::NoMemory));
     };
     let mut bytes = bytes;
     if !order.read_over(head.offset / BLOCK_BYTES, span, &mut bytes) {

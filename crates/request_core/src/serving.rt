@@ -11,7 +11,7 @@ ghost use Rattle.export_model.specs.Log.{edit_asked, flush_waits, is_write, wait
 ghost use Rattle.export_model.specs.Verdict.{IsServedRange, verdict};
 ghost use Rattle.export_model.specs.declared.action.Action.{Action};
 
-use crate::edits::{joined, split};
+use crate::edits::{join_request, split_request};
 use crate::judgement::judge;
 use crate::reading::{Blocks, serve_held_read, serve_read, serve_status};
 use bitflags::Flags;
@@ -85,8 +85,8 @@ pub fn serve_held<B: BoardName, T: Trust>(
     let head = request.head();
     match judge(&head, &terms.geometry, &terms.flags) {
         Ok(Action::End) => unreachable!(),
-        Err(errno) => Ok(refused(head.cookie, errno)),
-        Ok(Action::Serve) if order.stopped() => Ok(refused(head.cookie, Errno::Io)),
+        Err(errno) => Ok(refuse(head.cookie, errno)),
+        Ok(Action::Serve) if order.is_stopped() => Ok(refuse(head.cookie, Errno::Io)),
         Ok(Action::Serve) => serve_passed(alloc, request, order, board, pass, terms),
     }
 }
@@ -116,7 +116,7 @@ fn serve_passed<B: BoardName, T: Trust>(
 {
     let head = request.head();
     match head.kind {
-        FLUSH => Ok(flushed(&head, terms.mode, order.await_mark(board, pass))),
+        FLUSH => Ok(answer_flush(&head, terms.mode, order.await_mark(board, pass))),
         READ => {
             let blocks = Blocks::of(&head);
             if order.holds(blocks.first, blocks.count) {
@@ -178,7 +178,7 @@ pub fn serve_with_keeper<B: BoardName, D: Disk, T: Trust>(
     }
 }
 
-pub(crate) fn refused(cookie: u64, errno: Errno) -> Served
+pub(crate) fn refuse(cookie: u64, errno: Errno) -> Served
     ensures { result ≡ ready_for cookie (Answer.Refused errno) }
 {
     Served::Ready(Reply {
@@ -211,16 +211,16 @@ fn serve_held_edit<B: BoardName, T: Trust>(
     ensures client { IfOk result (λ served. IsClientServed T.mode request order.old.mark order.new.mark served pass.old.client pass.new.client) }
     ensures grown { order.old.mark < order.new.mark → pass.new.history ≡ order.new.history }
 {
-    let (head, edit) = split(request);
+    let (head, edit) = split_request(request);
     if order.needs_device(&edit) {
-        return Err(NeedsKeeper(joined(alloc, head, edit)));
+        return Err(NeedsKeeper(join_request(alloc, head, edit)));
     }
-    match order.accept_held(board, pass, edit) {
-        Ok(number) => Ok(accepted(&head, terms.mode, number)),
-        Err((OrderFault::NoRoom, edit)) => Ok(Served::NoRoom(joined(alloc, head, edit))),
-        Err((OrderFault::NoMemory, _)) => Ok(refused(head.cookie, Errno::NoMemory)),
-        Err((OrderFault::NumbersFull, _)) => Ok(refused(head.cookie, Errno::NoSpace)),
-        Err(_) => Ok(refused(head.cookie, Errno::Io)),
+    match order.accept_in_memory(board, pass, edit) {
+        Ok(number) => Ok(answer_write(&head, terms.mode, number)),
+        Err((OrderFault::NoRoom, edit)) => Ok(Served::NoRoom(join_request(alloc, head, edit))),
+        Err((OrderFault::NoMemory, _)) => Ok(refuse(head.cookie, Errno::NoMemory)),
+        Err((OrderFault::NumbersFull, _)) => Ok(refuse(head.cookie, Errno::NoSpace)),
+        Err(_) => Ok(refuse(head.cookie, Errno::Io)),
     }
 }
 
@@ -253,26 +253,26 @@ fn serve_edit<B: BoardName, D: Disk, T: Trust>(
     ensures client { IsClientServed T.mode request order.old.mark order.new.mark result pass.old.client pass.new.client }
     ensures grown { order.old.mark < order.new.mark → pass.new.history ≡ order.new.history }
 {
-    let (head, edit) = split(request);
+    let (head, edit) = split_request(request);
     match order.accept_edit(keeper, board, pass, edit) {
-        Ok(number) => accepted(&head, terms.mode, number),
-        Err((OrderFault::NoRoom, edit)) => Served::NoRoom(joined(alloc, head, edit)),
-        Err((OrderFault::NoMemory, _)) => refused(head.cookie, Errno::NoMemory),
-        Err((OrderFault::NumbersFull, _)) => refused(head.cookie, Errno::NoSpace),
+        Ok(number) => answer_write(&head, terms.mode, number),
+        Err((OrderFault::NoRoom, edit)) => Served::NoRoom(join_request(alloc, head, edit)),
+        Err((OrderFault::NoMemory, _)) => refuse(head.cookie, Errno::NoMemory),
+        Err((OrderFault::NumbersFull, _)) => refuse(head.cookie, Errno::NoSpace),
         // (Each has an arm, because a joined one tells the proof nothing of the fault.)
-        Err((OrderFault::DeviceFault, _)) => failed(order, head.cookie),
-        Err((OrderFault::Failed, _)) => failed(order, head.cookie),
-        Err((OrderFault::Stopped, _)) => failed(order, head.cookie),
+        Err((OrderFault::DeviceFault, _)) => stop_order(order, head.cookie),
+        Err((OrderFault::Failed, _)) => stop_order(order, head.cookie),
+        Err((OrderFault::Stopped, _)) => stop_order(order, head.cookie),
     }
 }
 
 // Stops the order, because a call of the device has failed: the answer is EIO.
-fn failed<B: BoardName>(order: &mut Order<B>, cookie: u64) -> Served
+fn stop_order<B: BoardName>(order: &mut Order<B>, cookie: u64) -> Served
     ensures order { order.new ≡ record order.old { stopped = true } }
     ensures answer { result ≡ ready_for cookie (Answer.Refused Errno.Io) }
 {
     order.stop();
-    refused(cookie, Errno::Io)
+    refuse(cookie, Errno::Io)
 }
 
 // Whether the answer to a write command waits until it is durable: never in ordered.
@@ -288,17 +288,17 @@ fn waits(head: &RequestHead, mode: Mode) -> bool
 }
 
 // What a FLUSH comes to whose pass was shown all of the order, up to this number: in ordered it waits for nothing.
-fn flushed(head: &RequestHead, mode: Mode, last: u64) -> Served
+fn answer_flush(head: &RequestHead, mode: Mode, last: u64) -> Served
     ensures { result ≡ served_after (flush_waits mode) head.now.cookie last }
 {
     match mode {
         Mode::Writethrough => Served::Wait(last),
         Mode::Writeback => Served::Wait(last),
-        Mode::Ordered => done(head),
+        Mode::Ordered => answer_done(head),
     }
 }
 
-fn done(head: &RequestHead) -> Served
+fn answer_done(head: &RequestHead) -> Served
     ensures { result ≡ ready_for head.now.cookie Answer.Done }
 {
     Served::Ready(Reply {
@@ -308,12 +308,12 @@ fn done(head: &RequestHead) -> Served
 }
 
 // What a write command comes to that has got this number.
-fn accepted(head: &RequestHead, mode: Mode, number: u64) -> Served
+fn answer_write(head: &RequestHead, mode: Mode, number: u64) -> Served
     ensures { result ≡ served_after (waits_for_store mode (record { head = head.now; bytes = [] })) head.now.cookie number }
 {
     if waits(head, mode) {
         Served::Wait(number)
     } else {
-        done(head)
+        answer_done(head)
     }
 }

@@ -44,7 +44,7 @@ const FLAGS: SessionFlags = SessionFlags {
 #[derive(Clone, Copy)]
 pub enum Told {
     Done,
-    Held,
+    Skipped,
     /// The refusal.
     Failed(StepFault),
     /// A connection was answered ([`last_answer`]).
@@ -258,8 +258,8 @@ impl<B: BoardName, D: Disk> Life<B, D> {
 
 impl<B: BoardName> Life<B, SimDisk> {
     /// Whether a stop of the device was met.
-    pub fn stopped(&self) -> bool {
-        self.keeper.stopped()
+    pub fn is_stopped(&self) -> bool {
+        self.keeper.is_stopped()
     }
 
     /// The `k`-th call of this kind from now on fails.
@@ -306,10 +306,10 @@ pub fn last_answer(log: &[Event]) -> Option<&Answer> {
 // What the last event of a log says.
 fn last_event(log: &[Event]) -> Told {
     let Some(event) = log.last() else {
-        return Told::Held;
+        return Told::Skipped;
     };
     match event {
-        Event::Held => Told::Held,
+        Event::Skipped => Told::Skipped,
         Event::Failed(fault) => Told::Failed(*fault),
         Event::Answered(..) => Told::Answered,
         Event::Sent(..) | Event::Numbered(..) | Event::Took => Told::Done,

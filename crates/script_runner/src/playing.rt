@@ -77,7 +77,7 @@ impl Schedule {
             disk = after;
             left = left.saturating_sub(log.len());
             keep(&mut lives, PlayedLife { opening, log })?;
-            if disk.stopped() || left == 0 {
+            if disk.is_stopped() || left == 0 {
                 break;
             }
             upgrades = true;
@@ -147,7 +147,7 @@ fn carry_out_all<B: BoardName>(
         if matches!(told, Told::Failed(StepFault::NoMemory)) {
             return Err(KeeperFault::NoMemory);
         }
-        if life.stopped() || life.log().len() >= most {
+        if life.is_stopped() || life.log().len() >= most {
             return Ok(());
         }
     }

@@ -218,7 +218,7 @@ fn step<B: BoardName, W: Write>(
 ) -> Result<Option<Way>, End> {
     hand.cookie = hand.cookie.wrapping_add(1);
     let told = carry_out(alloc, life, line, hand.cookie);
-    if life.stopped() {
+    if life.is_stopped() {
         print(output, "stopped")?;
         return Ok(Some(Way::Crash(hand.armed)));
     }
@@ -235,7 +235,7 @@ fn tell<W: Write>(
 ) -> Result<(), Refusal> {
     match told {
         Told::Done => print(output, "done"),
-        Told::Held => print(output, "held"),
+        Told::Skipped => print(output, "held"),
         Told::Failed(fault) => print_failed(number_of(fault), output),
         Told::Answered => print_answer(answer, line, output),
     }
@@ -321,7 +321,7 @@ fn open_again<W: Write>(
     match open(alloc, disk, upgrades) {
         Ok(opened) => Ok(opened),
         Err((fault, mut disk)) => {
-            if !disk.stopped() {
+            if !disk.is_stopped() {
                 return Err(failed(fault, output));
             }
             print(output, "stopped")?;

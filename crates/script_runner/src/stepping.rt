@@ -56,11 +56,11 @@ fn step_of(alloc: Global, line: StepLine, cookie: u64) -> Result<Step, AllocErro
 fn copy<B: BoardName>(life: &mut Life<B, SimDisk>, most: u64) -> Told
     ensures { ⟦<SimDisk as Disk>⟧.extent life.new.keeper.disk ≡ ⟦<SimDisk as Disk>⟧.extent life.old.keeper.disk }
 {
-    let mut told = Told::Held;
+    let mut told = Told::Skipped;
     for _ in 0..most {
         match life.step(Step::Copy) {
             Told::Done => told = Told::Done,
-            Told::Held => return told,
+            Told::Skipped => return told,
             failed => return failed,
         }
     }

@@ -42,7 +42,7 @@ impl From<UnixListener> for Listener {
 
 impl Listener {
     /// The same listener, which another process has too: the end of the server doesn't shut it.
-    pub fn shared(self) -> Listener {
+    pub fn into_shared(self) -> Listener {
         Listener {
             is_shared: true,
             ..self

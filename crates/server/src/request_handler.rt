@@ -11,7 +11,7 @@ use crate::client::Client;
 use crate::log::{Event, Log, Traffic};
 use bitflags::Flags;
 use disk_model::Disk;
-use export::{ClientPass, Export, ExportName, ReadBeside, SyncPoints};
+use export::{ClientPass, Export, ExportName, ReadUnlocked, SyncPoints};
 use export_model::Mode;
 use image_model::Geometry;
 use marks::Trust;
@@ -32,7 +32,7 @@ pub struct RequestHandler<
     'a,
     B: ExportName,
     D: Disk,
-    H: ReadBeside,
+    H: ReadUnlocked,
     T: Trust,
     R: Wait + Clock,
     L: SyncPoints + Log + Copy,
@@ -61,7 +61,7 @@ impl<
     'a,
     B: ExportName,
     D: Disk,
-    H: ReadBeside,
+    H: ReadUnlocked,
     T: Trust,
     R: Wait + Clock,
     L: SyncPoints + Log + Copy,
@@ -130,7 +130,7 @@ impl<
     'a,
     B: ExportName,
     D: Disk,
-    H: ReadBeside,
+    H: ReadUnlocked,
     T: Trust,
     R: Wait + Clock,
     L: SyncPoints + Log + Copy,

@@ -15,7 +15,8 @@ use crate::log::Log;
 use crate::worker::{Server, Task, WorkerPool};
 use disk_model::Disk;
 use export::{
-    ClientPass, Export, ExportName, LastPass, OpenDevice, ReadBeside, SyncPoints, opened_device_law,
+    ClientPass, Export, ExportName, LastPass, OpenDevice, ReadUnlocked, SyncPoints,
+    opened_device_law,
 };
 use front_end::{Refusal, ServeOptions};
 use marks::{BlankBoard, Trust};
@@ -51,7 +52,7 @@ pub fn serve<D, H, R, I, G>(
 ) -> (Result<(), Refusal>, D)
 where
     D: Disk + Send + Drop,
-    H: ReadBeside + Send + Sync,
+    H: ReadUnlocked + Send + Sync,
     R: Threads + Wait + Clock + Copy + Send + Sync + Drop + 'static,
     I: Read + Send + Drop + 'static,
     G: SyncPoints + Log + Copy + Send + Sync,
@@ -60,7 +61,7 @@ where
     ensures stored { OnOk result.0 (IsTrusted D.state D.honest device.keeper (image_found D.state device.keeper) → (history : List Change)
         × LeavesHistory (D.state device.keeper.disk) (D.state result.1) device.keeper.count (image_found D.state device.keeper) history (device.keeper.count + length history)) }
     ensures log { (history : List Change) × (roster : RosterState)
-        × KeepsLog (IsTrustedWith D.state D.honest H.vouches device.keeper device.beside (image_found D.state device.keeper)) options.mode (IsTrusted D.state D.honest device.keeper (image_found D.state device.keeper)) (D.state device.keeper.disk) (D.state result.1) device.keeper.count (image_found D.state device.keeper) history roster
+        × KeepsLog (IsTrustedWith D.state D.honest H.vouches device.keeper device.second_handle (image_found D.state device.keeper)) options.mode (IsTrusted D.state D.honest device.keeper (image_found D.state device.keeper)) (D.state device.keeper.disk) (D.state result.1) device.keeper.count (image_found D.state device.keeper) history roster
         × OnOk result.0 (IsTrusted D.state D.honest device.keeper (image_found D.state device.keeper)
         → LeavesHistory (D.state device.keeper.disk) (D.state result.1) device.keeper.count (image_found D.state device.keeper) history (device.keeper.count + length history)) }
     ensures honest { IsTrusted D.state D.honest device.keeper (image_found D.state device.keeper) → D.honest result.1 }
@@ -145,12 +146,12 @@ fn serve_logged<T, D, H, R, G>(
 where
     T: Trust + Send + Sync,
     D: Disk + Send + Drop,
-    H: ReadBeside + Send + Sync,
+    H: ReadUnlocked + Send + Sync,
     R: Threads + Wait + Clock + Sync,
     G: SyncPoints + Log + Copy + Send + Sync,
     requires mode { T.mode ≡ options.mode }
     requires image { T.image ≡ image_found D.state device.keeper }
-    requires trusted { T.trusted → IsTrustedWith D.state D.honest H.vouches device.keeper device.beside (image_found D.state device.keeper) }
+    requires trusted { T.trusted → IsTrustedWith D.state D.honest H.vouches device.keeper device.second_handle (image_found D.state device.keeper) }
     ensures left { IsTrusted D.state D.honest device.keeper (image_found D.state device.keeper) → (history : List Change)
         × LeavesHistory (D.state device.keeper.disk) (D.state result.1) device.keeper.count (image_found D.state device.keeper) history device.keeper.count }
     ensures stored { OnOk result.0 (IsTrusted D.state D.honest device.keeper (image_found D.state device.keeper) → (history : List Change)
@@ -166,7 +167,7 @@ where
     let OpenDevice {
         blank: _,
         keeper,
-        beside,
+        second_handle,
         failures,
     } = device;
     match BlankBoard::<T>::new(alloc, keeper.count()) {
@@ -174,7 +175,7 @@ where
             let device = OpenDevice {
                 blank,
                 keeper,
-                beside,
+                second_handle,
                 failures,
             };
             serve_over::<Brand, D, H, T, R, G>(rt, alloc, device, registry, options, name, watch)
@@ -195,7 +196,7 @@ fn serve_over<B, D, H, T, R, G>(
 where
     B: ExportName + Send + Sync,
     D: Disk + Send + Drop,
-    H: ReadBeside + Send + Sync,
+    H: ReadUnlocked + Send + Sync,
     T: Trust + Send + Sync,
     R: Threads + Wait + Clock + Sync,
     G: SyncPoints + Log + Copy + Send + Sync,
@@ -204,7 +205,7 @@ where
     requires image { device.keeper.geometry.blocks ≡ B.image.blocks }
     requires trusted { B.trusted → IsTrusted D.state D.honest device.keeper B.image }
     requires start { B.trusted → LeavesOnly B.start (D.state device.keeper.disk) (λ content. StandsFor content B.image B.opening) }
-    requires vouches { (handle : H) → device.beside ≡ Some handle → (read : SpanRead) → H.vouches handle read → B.vouches read }
+    requires vouches { (handle : H) → device.second_handle ≡ Some handle → (read : SpanRead) → H.vouches handle read → B.vouches read }
     requires geometry { device.keeper.geometry ≡ B.geometry }
     requires log { T.logs → IsLogOf B.opening B.image B.vouches B.trusted options.mode T.trusted T.mode T.image }
     ensures left { B.trusted → (history : List Change) × LeavesHistory B.start (D.state result.1) B.opening B.image history B.opening }
@@ -250,14 +251,14 @@ fn open_export<B, D, H, T>(
 where
     B: ExportName,
     D: Disk,
-    H: ReadBeside,
+    H: ReadUnlocked,
     T: Trust,
     requires board { device.blank.board ≡ B.board }
     requires named { device.blank.opening ≡ B.opening }
     requires image { device.keeper.geometry.blocks ≡ B.image.blocks }
     requires trusted { B.trusted → IsTrusted D.state D.honest device.keeper B.image }
     requires start { B.trusted → LeavesOnly B.start (D.state device.keeper.disk) (λ content. StandsFor content B.image B.opening) }
-    requires vouches { (handle : H) → device.beside ≡ Some handle → (read : SpanRead) → H.vouches handle read → B.vouches read }
+    requires vouches { (handle : H) → device.second_handle ≡ Some handle → (read : SpanRead) → H.vouches handle read → B.vouches read }
     requires geometry { device.keeper.geometry ≡ B.geometry }
     requires log { T.logs → IsLogOf B.opening B.image B.vouches B.trusted options.now.mode T.trusted T.mode T.image }
     ensures mode { IfOk result (λ made. made.0.mode ≡ options.now.mode) }
@@ -286,7 +287,7 @@ fn serve_clients<B, D, H, T, R, G>(
 where
     B: ExportName + Send + Sync,
     D: Disk + Send,
-    H: ReadBeside + Send + Sync,
+    H: ReadUnlocked + Send + Sync,
     T: Trust + Send + Sync,
     R: Threads + Wait + Clock + Sync,
     G: SyncPoints + Log + Copy + Send + Sync,
@@ -305,7 +306,7 @@ where
     };
     let served = run_threads(rt, &server);
     // A fault that another handle met is none of the keeper's device.
-    let has_failed = export.stopped(rt);
+    let has_failed = export.is_stopped(rt);
     let outcome = match served {
         Ok(()) if has_failed => Err(Refusal::DeviceFault),
         served => served,
@@ -321,7 +322,7 @@ fn run_threads<B, D, H, T, R, G>(
 where
     B: ExportName + Send + Sync,
     D: Disk + Send,
-    H: ReadBeside + Send + Sync,
+    H: ReadUnlocked + Send + Sync,
     T: Trust + Send + Sync,
     R: Threads + Wait + Clock + Sync,
     G: SyncPoints + Log + Copy + Send + Sync,
@@ -337,7 +338,7 @@ impl<'a, B, D, H, T, R, G> Server<'a, B, D, H, T, R, G>
 where
     B: ExportName + Send + Sync,
     D: Disk + Send,
-    H: ReadBeside + Send + Sync,
+    H: ReadUnlocked + Send + Sync,
     T: Trust + Send + Sync,
     R: Wait + Clock + Sync,
     G: SyncPoints + Log + Copy + Send + Sync,

@@ -7,7 +7,7 @@ use crate::log::{Event, Log, Traffic, Watched};
 use crate::request_handler::RequestHandler;
 use disk_model::Disk;
 use export::{
-    ClientPass, Export, ExportFigures, ExportName, LastPass, ReadBeside, RetiredPass, SyncPoints,
+    ClientPass, Export, ExportFigures, ExportName, LastPass, ReadUnlocked, RetiredPass, SyncPoints,
 };
 use front_end::{OnFault, ServeOptions, WhenFull};
 use marks::Trust;
@@ -61,7 +61,7 @@ pub(crate) struct WorkerPool<'a, B: ExportName> {
 
 impl<'a, B: ExportName> WorkerPool<'a, B> {
     /// For so many sessions; 0 for no end. The last of the passes is that of whoever has all stored.
-    pub(crate) fn new<D: Disk, H: ReadBeside, T: Trust, R: Wait>(
+    pub(crate) fn new<D: Disk, H: ReadUnlocked, T: Trust, R: Wait>(
         rt: &R,
         alloc: Global,
         registry: &'a ClientRegistry,
@@ -102,7 +102,7 @@ impl<'a, B: ExportName> WorkerPool<'a, B> {
     }
 
     /// Takes a pass for good, from the worker of a slot that takes no more clients; whether it was the last one.
-    pub(crate) fn retire<D: Disk, H: ReadBeside, T: Trust, R: Wait>(
+    pub(crate) fn retire<D: Disk, H: ReadUnlocked, T: Trust, R: Wait>(
         &self,
         rt: &R,
         export: &Export<B, D, H, T>,
@@ -118,7 +118,7 @@ impl<'a, B: ExportName> WorkerPool<'a, B> {
     }
 
     /// The figures of an export, which the pass of the end learns of.
-    pub(crate) fn figures<D: Disk, H: ReadBeside, T: Trust, R: Wait + Clock>(
+    pub(crate) fn figures<D: Disk, H: ReadUnlocked, T: Trust, R: Wait + Clock>(
         &self,
         rt: &R,
         export: &Export<B, D, H, T>,
@@ -132,7 +132,7 @@ impl<'a, B: ExportName> WorkerPool<'a, B> {
     }
 
     /// The pass of the end.
-    pub(crate) fn into_last<D: Disk, H: ReadBeside, T: Trust>(
+    pub(crate) fn into_last<D: Disk, H: ReadUnlocked, T: Trust>(
         self,
         export: &Export<B, D, H, T>,
     ) -> LastPass<B> {
@@ -174,7 +174,7 @@ impl<
     'a,
     B: ExportName,
     D: Disk,
-    H: ReadBeside,
+    H: ReadUnlocked,
     T: Trust,
     R: Wait + Clock,
     G: SyncPoints + Copy,
@@ -201,7 +201,7 @@ impl<
 
 /// What the threads of a server have in common.
 #[derive(Drop)]
-pub(crate) struct Server<'a, B: ExportName, D: Disk, H: ReadBeside, T: Trust, R, G> {
+pub(crate) struct Server<'a, B: ExportName, D: Disk, H: ReadUnlocked, T: Trust, R, G> {
     pub rt: &'a R,
     pub pool: &'a WorkerPool<'a, B>,
     pub export: &'a Export<B, D, H, T>,
@@ -215,7 +215,7 @@ impl<
     'a,
     B: ExportName,
     D: Disk,
-    H: ReadBeside,
+    H: ReadUnlocked,
     T: Trust,
     R: Wait + Clock,
     G: SyncPoints + Log + Copy,
@@ -227,7 +227,7 @@ impl<
             Task::Flush => {
                 self.export.flusher(self.rt, &mut watch);
                 // Once a call of the device has failed, the sessions are ended where the server isn't to stay.
-                if self.options.on_fault == OnFault::Exit && self.export.stopped(self.rt) {
+                if self.options.on_fault == OnFault::Exit && self.export.is_stopped(self.rt) {
                     self.pool.registry.close(self.rt);
                 }
             }

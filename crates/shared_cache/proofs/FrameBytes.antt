@@ -9,7 +9,7 @@ use Rattle.frame_pool.specs.Lists.{times}
 use Rattle.frame_pool.specs.Pool.{DirtyFrame, PoolState, frames_of}
 use Rattle.frame_pool.specs.laws.Times.{times_head}
 use Rattle.shared_cache.specs.Blocks.{DirtyBlock, bytes_of, clean_bytes, dirty_bytes}
-use Rattle.shared_cache.specs.Held.{HeldState, IsHeld, block_at, bytes_at, blocks_of, clean_block, dirty_block, held_times}
+use Rattle.shared_cache.specs.CachedBlocks.{CachedState, IsHeld, block_at, bytes_at, blocks_of, clean_block, dirty_block, held_times}
 use Rattle.shared_cache.specs.inner.Blocks.{IsMissing}
 
 found_clean : (pool : PoolState) (blocks : List ℕ) (frame : ℕ) (frames : List ℕ)
@@ -45,7 +45,7 @@ found_dirty pool blocks frame (h ∷ dirty) apart =
     ]
 
 -- the bytes of a frame's block
-pub bytes_found : (held : HeldState) (frame block : ℕ) (bytes : List ℕ) → IsHeld held → (1 ≤ held_times frame held.pool) × (block_at held.blocks frame ≡ block)
+pub bytes_found : (held : CachedState) (frame block : ℕ) (bytes : List ℕ) → IsHeld held → (1 ≤ held_times frame held.pool) × (block_at held.blocks frame ≡ block)
     → slice_get held.pool.bytes frame ≡ Some bytes → Some bytes ≡ bytes_of block (blocks_of held.pool held.blocks)
 bytes_found held frame block bytes is found read =
     let pool = held.pool in
@@ -64,7 +64,7 @@ bytes_found held frame block bytes is found read =
     read_out zero (x ∷ xs) bytes is = cc
     read_out (suc i) (x ∷ xs) bytes is = read_out i xs bytes is
 
-pub bytes_missing : (held : HeldState) (block : ℕ) → IsMissing block held → None ≡ bytes_of block (blocks_of held.pool held.blocks)
+pub bytes_missing : (held : CachedState) (block : ℕ) → IsMissing block held → None ≡ bytes_of block (blocks_of held.pool held.blocks)
 bytes_missing held block missing =
     sym (rw (
       no_clean held.pool held.blocks block held.pool.clean (λ frame there. missing frame (omega (arith, there))),

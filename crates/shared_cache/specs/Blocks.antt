@@ -71,13 +71,13 @@ is_clean block blocks = list_any (λ (held : CleanBlock). held.block == block) b
 abbrev pub is_dirty : ℕ → BlocksState → Bool
 is_dirty block blocks = list_any (λ (held : DirtyBlock). held.block == block) blocks.dirty
 
-abbrev pub is_held : ℕ → BlocksState → Bool
-is_held block blocks = is_clean block blocks || is_dirty block blocks
+abbrev pub is_cached : ℕ → BlocksState → Bool
+is_cached block blocks = is_clean block blocks || is_dirty block blocks
 
 -- a block that was read, in a frame that is taken; one that is held stays as it is
 abbrev pub with_fill : ℕ → List ℕ → BlocksState → BlocksState
 with_fill block bytes blocks =
-    if is_held block blocks then blocks
+    if is_cached block blocks then blocks
     else record { free = (taken blocks).free; clean = (taken blocks).clean ++ record { block = block; bytes = bytes } ∷ []; dirty = blocks.dirty }
 
 -- the dirty blocks up to this number at the back of the clean ones
@@ -98,12 +98,12 @@ abbrev pub edges_missing : ℕ → ℕ → ℕ → ℕ → BlocksState → ℕ
 edges_missing first count head tail blocks = count_missing first head blocks + count_missing (first + count - tail) tail blocks
 
 -- how many frames hold no dirty block
-abbrev pub at_hand : BlocksState → ℕ
-at_hand blocks = blocks.free + length blocks.clean
+abbrev pub available_frames : BlocksState → ℕ
+available_frames blocks = blocks.free + length blocks.clean
 
 -- No frame can be taken for a block, which isn't held.
 abbrev pub HasNoFrame : ℕ → BlocksState → Type 0
-HasNoFrame block blocks = (is_held block blocks ≡ false) × (blocks.free ≡ 0) × (blocks.clean ≡ [])
+HasNoFrame block blocks = (is_cached block blocks ≡ false) × (blocks.free ≡ 0) × (blocks.clean ≡ [])
 
 -- the bytes of a block that is held
 abbrev pub clean_bytes : ℕ → List CleanBlock → Option (List ℕ)

@@ -5,8 +5,8 @@ use Rattle.image_model.specs.declared.command.Kind.{Kind}
 use Rattle.image_model.specs.declared.command.Kind.TheVariants.{Data, Zero, Hole}
 use Rattle.image_model.specs.Image.{covers}
 use Rattle.image_model.specs.Patched.{patched}
-use Rattle.shared_cache.specs.Blocks.{BlocksState, bytes_of, is_held, with_puts, without}
-use Rattle.shared_cache.specs.Held.{HeldState, IsHeld}
+use Rattle.shared_cache.specs.Blocks.{BlocksState, bytes_of, is_cached, with_puts, without}
+use Rattle.shared_cache.specs.CachedBlocks.{CachedState, IsHeld}
 
 -- the current state of each block, and the blocks that are held
 pub record CacheState : Type 0 where
@@ -14,7 +14,7 @@ pub record CacheState : Type 0 where
   pub blocks : BlocksState
 
 -- The image has no more blocks than a device, and each frame holds a block of its own.
-pub record IsCache (states : List Kind) (held : HeldState) : Type 0 where
+pub record IsCache (states : List Kind) (held : CachedState) : Type 0 where
   pub few : length states ≤ 16777216
   pub held_kept : IsHeld held
 
@@ -50,4 +50,4 @@ with_edges number first count kind head tail cache =
 -- One of this many blocks from the first one on is data, and no frame holds it.
 abbrev pub LacksBytes : CacheState → ℕ → ℕ → Type 0
 LacksBytes cache first count =
-    (k : ℕ) × (k < count) × (state_at cache.states (first + k) ≡ Data) × (is_held (first + k) cache.blocks ≡ false)
+    (k : ℕ) × (k < count) × (state_at cache.states (first + k) ≡ Data) × (is_cached (first + k) cache.blocks ≡ false)

@@ -1,6 +1,6 @@
 pub mod Blocks
 pub mod Cache
-pub mod Held
+pub mod CachedBlocks
 pub mod View
 pub mod inner
 pub mod laws

@@ -5,7 +5,7 @@ use Rattle.alloc_map.specs.Codes.{state_at}
 use Rattle.image_model.specs.declared.command.Kind.{Kind}
 use Rattle.image_model.specs.declared.command.Kind.TheVariants.{Data}
 use Rattle.image_model.specs.Image.{covers}
-use Rattle.shared_cache.specs.Blocks.{DirtyBlock, is_dirty, is_held}
+use Rattle.shared_cache.specs.Blocks.{DirtyBlock, is_dirty, is_cached}
 use Rattle.shared_cache.specs.Cache.{CacheState, bytes_seen}
 
 -- The bytes of a block are those that they were, or they are in memory no more: its frame was clean, and was taken since
@@ -28,7 +28,7 @@ pub record ShowsPut (first : ℕ) (blocks : List (List ℕ)) (old new : CacheSta
 pub record ShowsClear (first count : ℕ) (kind : Kind) (old new : CacheState) : Type 0 where
   pub states : (block : ℕ) → state_at new.states block ≡ (if covers first count block then kind else state_at old.states block)
   pub zero_bytes : (block : ℕ) → covers first count block ≡ true → bytes_seen new block ≡ Some (replicate 4096 0)
-  pub no_frame : (block : ℕ) → covers first count block ≡ true → is_held block new.blocks ≡ false
+  pub no_frame : (block : ℕ) → covers first count block ≡ true → is_cached block new.blocks ≡ false
   pub others : (block : ℕ) → covers first count block ≡ false → bytes_seen new block ≡ bytes_seen old block
   pub dirty : (block : ℕ) → covers first count block ≡ false → is_dirty block new.blocks ≡ is_dirty block old.blocks
 
@@ -45,7 +45,7 @@ pub record ShowsEdges (first count : ℕ) (kind : Kind) (head tail : List (List 
   pub at_head : (k : ℕ) (d : List ℕ) → k < length head → bytes_seen new (first + k) ≡ Some (slice_index_or head k d)
   pub at_tail : (k : ℕ) (d : List ℕ) → k < length tail → bytes_seen new (first + count - length tail + k) ≡ Some (slice_index_or tail k d)
   pub between : (block : ℕ) → covers first count block ≡ true → is_edge first count (length head) (length tail) block ≡ false
-      → (bytes_seen new block ≡ Some (replicate 4096 0)) × (is_held block new.blocks ≡ false)
+      → (bytes_seen new block ≡ Some (replicate 4096 0)) × (is_cached block new.blocks ≡ false)
   pub others : (block : ℕ) → covers first count block ≡ false → KeepsBytes (length head + length tail) old new block
   pub dirty : (block : ℕ) → is_dirty block new.blocks
       ≡ (is_edge first count (length head) (length tail) block || (not (covers first count block) && is_dirty block old.blocks))
@@ -54,7 +54,7 @@ pub record ShowsEdges (first count : ℕ) (kind : Kind) (head tail : List (List 
 -- and the same blocks are dirty.
 pub record ShowsFill (block : ℕ) (bytes : List ℕ) (old new : CacheState) : Type 0 where
   pub states : new.states ≡ old.states
-  pub filled : bytes_seen new block ≡ (if is_held block old.blocks then bytes_seen old block else Some bytes)
+  pub filled : bytes_seen new block ≡ (if is_cached block old.blocks then bytes_seen old block else Some bytes)
   pub others : (other : ℕ) → other ≢ block → KeepsBytes 1 old new other
   pub dirty : (other : ℕ) → is_dirty other new.blocks ≡ is_dirty other old.blocks
 

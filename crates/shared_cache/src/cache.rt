@@ -4,13 +4,13 @@ ghost use Rattle.alloc_map.specs.Codes.{state_at};
 ghost use Rattle.image_model.specs.Image.{covers};
 ghost use Rattle.image_model.specs.Patched.{patched};
 ghost use Rattle.image_model.specs.declared.command.Kind.TheVariants as Kind;
-ghost use Rattle.shared_cache.specs.Blocks.{DirtyBlock, HasNoFrame, IsOnce, at_hand, cleaned, count_missing, edges_missing, is_held, with_fill, with_puts, without};
+ghost use Rattle.shared_cache.specs.Blocks.{DirtyBlock, HasNoFrame, IsOnce, available_frames, cleaned, count_missing, edges_missing, is_cached, with_fill, with_puts, without};
 ghost use Rattle.shared_cache.specs.Cache.{LacksBytes, bytes_seen, with_edges};
 ghost use Rattle.shared_cache.specs.View.{ShowsClean, ShowsClear, ShowsEdges, ShowsFill, ShowsPut};
 ghost use Rattle.shared_cache.specs.declared.fault.KeepFault.TheVariants as KeepFault;
 
+use crate::cached_blocks::CachedBlocks;
 use crate::fault::{KeepFault, Missing};
-use crate::held::Held;
 use alloc_map::AllocMap;
 use image_model::Kind;
 use std::alloc::{AllocError, Global};
@@ -23,13 +23,13 @@ static ZERO_BLOCK: [u8; 4096] = [0; 4096];
 /// block that is clean, as the image has it, or dirty, with the number of the command that wrote it.
 #[derive(Drop)]
 pub struct Cache {
-    held: Held,
+    held: CachedBlocks,
     map: AllocMap,
 }
 
 impl Model for Cache {
     ghost use Rattle.shared_cache.specs.Cache.{CacheState, IsCache};
-    ghost use Rattle.shared_cache.specs.Held.{blocks_of};
+    ghost use Rattle.shared_cache.specs.CachedBlocks.{blocks_of};
 
     ghost Value = { CacheState };
 
@@ -46,7 +46,7 @@ impl Cache {
         ensures { IfOk result (λ cache. cache ≡ record { states = map; blocks = record { free = frames; clean = []; dirty = [] } }) }
     {
         Ok(Cache {
-            held: Held::new(alloc, frames)?,
+            held: CachedBlocks::new(alloc, frames)?,
             map,
         })
     }
@@ -67,19 +67,19 @@ impl Cache {
     }
 
     /// How many frames hold a block, a clean or a dirty one. No clause says the number.
-    pub fn held_blocks(&self) -> usize {
-        self.held.held_blocks()
+    pub fn cached_blocks(&self) -> usize {
+        self.held.cached_blocks()
     }
 
     /// Whether there are frames for `count` blocks from `first` on, in addition to the blocks that are dirty.
     pub fn has_frames(&self, first: u64, count: u64) -> bool
         requires range { first + count ≤ length self.now.states }
-        ensures enough { IsTrue result ↔ (count_missing first count self.now.blocks ≤ at_hand self.now.blocks) }
+        ensures enough { IsTrue result ↔ (count_missing first count self.now.blocks ≤ available_frames self.now.blocks) }
         ensures once { IsOnce self.now.blocks }
     {
         // If there are as many available frames as blocks, none has to be looked up.
-        let at_hand = self.held.at_hand();
-        count <= at_hand || self.held.count_missing(first, count) <= at_hand
+        let available_frames = self.held.available_frames();
+        count <= available_frames || self.held.count_missing(first, count) <= available_frames
     }
 
     /// Writes blocks from the first one on, with the number of their command, which is at least 1 and no smaller than
@@ -96,7 +96,7 @@ impl Cache {
         }) }
         ensures view { OnOk result (ShowsPut first blocks.now self.old self.new) }
         ensures once { IsOnce self.new.blocks }
-        ensures no_frame { (result ≡ Err KeepFault.NoFrame) ↔ (at_hand self.old.blocks < count_missing first (length blocks.now) self.old.blocks) }
+        ensures no_frame { (result ≡ Err KeepFault.NoFrame) ↔ (available_frames self.old.blocks < count_missing first (length blocks.now) self.old.blocks) }
         ensures err { OnErr result (self.new ≡ self.old) }
     {
         let count = blocks.len() as u64;
@@ -128,12 +128,12 @@ impl Cache {
     pub fn has_frames_at_edges(&self, first: u64, count: u64, head: u64, tail: u64) -> bool
         requires range { first + count ≤ length self.now.states }
         requires edges { head + tail ≤ count }
-        ensures enough { IsTrue result ↔ (edges_missing first count head tail self.now.blocks ≤ at_hand self.now.blocks) }
+        ensures enough { IsTrue result ↔ (edges_missing first count head tail self.now.blocks ≤ available_frames self.now.blocks) }
         ensures once { IsOnce self.now.blocks }
     {
         let at_head = self.held.count_missing(first, head);
         let at_tail = self.held.count_missing(first + count - tail, tail);
-        at_head + at_tail <= self.held.at_hand()
+        at_head + at_tail <= self.held.available_frames()
     }
 
     /// Clears `count` blocks from `first` on but for the edges, which are written with the number of their command: the first
@@ -156,7 +156,7 @@ impl Cache {
         ensures ok { OnOk result (self.new ≡ with_edges number first count kind head.now tail.now self.old) }
         ensures view { OnOk result (ShowsEdges first count kind head.now tail.now self.old self.new) }
         ensures once { IsOnce self.new.blocks }
-        ensures no_frame { (result ≡ Err KeepFault.NoFrame) ↔ (at_hand self.old.blocks < edges_missing first count (length head.now) (length tail.now) self.old.blocks) }
+        ensures no_frame { (result ≡ Err KeepFault.NoFrame) ↔ (available_frames self.old.blocks < edges_missing first count (length head.now) (length tail.now) self.old.blocks) }
         ensures err { OnErr result (self.new ≡ self.old) }
     {
         if !self.has_frames_at_edges(first, count, head.len() as u64, tail.len() as u64) {
@@ -182,11 +182,11 @@ impl Cache {
         requires data { state_at self.old.states block ≡ Kind.Data }
         ensures ok { OnOk result (self.new ≡ record { states = self.old.states; blocks = with_fill block bytes.now self.old.blocks }) }
         ensures view { OnOk result (ShowsFill block bytes.now self.old self.new) }
-        ensures hit { is_held block self.old.blocks ≡ true → self.new ≡ self.old }
+        ensures hit { is_cached block self.old.blocks ≡ true → self.new ≡ self.old }
         ensures no_frame { (result ≡ Err KeepFault.NoFrame) ↔ HasNoFrame block self.old.blocks }
         ensures err { OnErr result (self.new ≡ self.old) }
     {
-        if self.held.at_hand() == 0 && !self.held.is_dirty(block) {
+        if self.held.available_frames() == 0 && !self.held.is_dirty(block) {
             return Err(KeepFault::NoFrame);
         }
         self.held.reserve(1)?;

@@ -2,8 +2,8 @@
 #![tactic(auto)]
 
 mod cache;
+mod cached_blocks;
 mod fault;
-mod held;
 mod index;
 
 pub use cache::Cache;

@@ -33,7 +33,7 @@ use Rattle.export_model.specs.declared.step.Mode.{Mode}
 use Rattle.shared_store.specs.Answers.{ServesImage, TellsImage}
 use Rattle.shared_store.specs.Keepers.{IsOfHistory}
 use Rattle.shared_store.specs.Orders.{AreRight, IsOrderOfHistory, KeepsImage, SpanRead, Trusting, behind_noted, noted_base}
-use Rattle.shared_store.proofs.Ordering.{clean_at, noted_clean}
+use Rattle.shared_store.proofs.OrderKnowsHistory.{clean_at, noted_clean}
 use Rattle.shared_store.proofs.Resting.{told_by}
 use Rattle.shared_store.proofs.Serving.{gives_base, read_for}
 

@@ -1,8 +1,8 @@
 mod Answering
 mod CleanBlocks
-mod Keeping
+mod StoredBeginsHistory
 mod Logging
 mod Noting
-mod Ordering
+mod OrderKnowsHistory
 mod Resting
 mod Serving

@@ -32,8 +32,8 @@ use Rattle.shared_store.specs.Keepers.{IsOfHistory}
 use Rattle.shared_cache.specs.Cache.{bytes_seen}
 use Rattle.shared_store.specs.Orders.{AreRight, IsOrderOfHistory, IsRight, KeepsImage, SpanRead, behind_noted, noted_base}
 use Rattle.shared_store.specs.Parts.{StandsWithin}
-use Rattle.shared_store.proofs.Keeping.{leaves_read, leaves_still, read_by, unread_by}
-use Rattle.shared_store.proofs.Ordering.{cached, clean_at, more, noted_clean, stopped}
+use Rattle.shared_store.proofs.StoredBeginsHistory.{leaves_read, leaves_still, read_by, unread_by}
+use Rattle.shared_store.proofs.OrderKnowsHistory.{cached, clean_at, more, noted_clean, stopped}
 use Rattle.shared_store.proofs.Resting.{weaker}
 
 module _ (opening : ℕ) (image : Image) (trusted : Type 0) (request : Message) (geometry : Geometry) (kept : Mode) (old new : OrderState) (is : IsOrderOfHistory opening image trusted old)

@@ -42,7 +42,7 @@ fn take(rt: &impl Abort, disk: &mut SimDisk, step: Step) {
         Step::Sync => disk.sync().is_ok(),
         Step::FailedSync => disk.sync().is_err(),
         Step::FailedRead => read(rt, disk).is_err(),
-        Step::Stopped(stopped) => disk.stopped() == stopped,
+        Step::Stopped(stopped) => disk.is_stopped() == stopped,
         Step::Failures(failures) => disk.failures() == failures,
         Step::Reads(bytes) => read(rt, disk) == Ok(bytes),
         Step::Fail(..) | Step::StopAt(_) | Step::Crash(_) => arm(disk, step),

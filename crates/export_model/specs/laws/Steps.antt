@@ -12,7 +12,7 @@ use Rattle.export_model.specs.declared.action.Action.TheVariants.{End, Serve}
 use Rattle.export_model.specs.declared.connection.Connection.{Connection}
 use Rattle.export_model.specs.declared.connection.Connection.TheVariants.{Idle, Requested, Waiting, Ready, Closed}
 use Rattle.export_model.specs.declared.event.Event.{Event}
-use Rattle.export_model.specs.declared.event.Event.TheVariants.{Numbered, Took, Held, Failed}
+use Rattle.export_model.specs.declared.event.Event.TheVariants.{Numbered, Took, Skipped, Failed}
 use Rattle.export_model.specs.declared.event.StepFault.{StepFault}
 use Rattle.export_model.specs.declared.event.StepFault.TheVariants as fault
 use Rattle.nbd_wire.specs.declared.message.Answer.{Answer}
@@ -43,7 +43,7 @@ of_either P false x y here there = there refl
 pub quiet_took : IsQuiet Took
 quiet_took = record { unsent = λ connection request is. cc; unanswered = λ connection outcome is. cc }
 
-pub quiet_held : IsQuiet Held
+pub quiet_held : IsQuiet Skipped
 quiet_held = record { unsent = λ connection request is. cc; unanswered = λ connection outcome is. cc }
 
 pub quiet_failed : (fault : StepFault) → IsQuiet (Failed fault)
@@ -53,7 +53,7 @@ pub quiet_numbered : (c number : ℕ) → IsQuiet (Numbered c number)
 quiet_numbered c number = record { unsent = λ connection request is. cc; unanswered = λ connection outcome is. cc }
 
 sound_held : (world : World) → IsSound world → IsSound (held world)
-sound_held world sound = sound_quiet world Held quiet_held sound
+sound_held world sound = sound_quiet world Skipped quiet_held sound
 
 -- a test that isn't met leaves the rest
 past : {X : Type 0} (test : Bool) (x y z : X) → (if test then x else y) ≡ z → (x ≡ z → ⊥) → (test ≡ false) × (y ≡ z)
@@ -291,7 +291,7 @@ module _ (world : World) (sound : IsSound world) where
   sound_append failure = of_either IsSound (nat_lt world.stage.stored world.stage.sealed) _ _
       (λ hand. of_either IsSound world.stage.stopped _ _
       (λ stopped. sound_put_back (Failed fault.FailedBefore) (quiet_failed fault.FailedBefore))
-      (λ works. of_either IsSound (fits world) _ _ (λ fit. sound_stored_more failure) (λ full. sound_put_back Held quiet_held)))
+      (λ works. of_either IsSound (fits world) _ _ (λ fit. sound_stored_more failure) (λ full. sound_put_back Skipped quiet_held)))
       (λ none. sound_held world sound)
 
   sound_publish : IsSound (publish world)

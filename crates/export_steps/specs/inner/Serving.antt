@@ -13,7 +13,7 @@ use Rattle.export_steps.specs.Parts.{AreConnectionsOf, IsOrderOf}
 use Rattle.export_model.specs.declared.connection.Connection.{Connection}
 use Rattle.export_model.specs.declared.connection.Connection.TheVariants.{Idle, Requested, Waiting, Ready, Closed}
 use Rattle.export_model.specs.declared.event.Event.{Event}
-use Rattle.export_model.specs.declared.event.Event.TheVariants.{Sent, Answered, Numbered as numbered, Took, Held, Failed}
+use Rattle.export_model.specs.declared.event.Event.TheVariants.{Sent, Answered, Numbered as numbered, Took, Skipped, Failed}
 use Rattle.export_model.specs.declared.event.StepFault.TheVariants.{NoMemory}
 use Rattle.nbd_wire.specs.declared.message.Answer.{Answer}
 use Rattle.nbd_wire.specs.declared.message.Answer.TheVariants.{Done, Refused}
@@ -30,7 +30,7 @@ state_of (served.NoRoom request) = Requested request
 abbrev pub quiet_event : Served → Event
 quiet_event (served.Ready reply) = Took
 quiet_event (served.Wait number) = Took
-quiet_event (served.NoRoom request) = Held
+quiet_event (served.NoRoom request) = Skipped
 
 -- the event of a request that was served, where the last number of the order went from one to another
 abbrev pub event_for : ℕ → ℕ → ℕ → Served → Event
@@ -69,7 +69,7 @@ answer_due durable stopped Closed = Err Closed
 abbrev pub IsAnsweredBy : ℕ → Bool → List Connection → ℕ → List Connection → Event → Type 0
 IsAnsweredBy durable stopped old connection new event =
     MatchOption (due_of durable stopped (slice_index_or old connection Closed))
-    ((new ≡ old) × (event ≡ Held))
+    ((new ≡ old) × (event ≡ Skipped))
     (λ outcome. (new ≡ slice_set old connection Idle) × (event ≡ Answered connection outcome))
 
 -- A connection that has no request open sends one, or memory is refused; another one sends nothing.
@@ -77,7 +77,7 @@ abbrev pub IsSentBy : List Connection → ℕ → Message → List Connection �
 IsSentBy old connection request new event =
     MatchBool (is_idle (slice_index_or old connection Closed))
     (((new ≡ slice_set old connection (Requested request)) × (event ≡ Sent connection request)) ⊎ ((new ≡ old) × (event ≡ Failed NoMemory)))
-    ((new ≡ old) × (event ≡ Held))
+    ((new ≡ old) × (event ≡ Skipped))
 
 -- what every request is judged by is the world's
 pub record AreTermsOf (world : World) (geometry : Geometry) (flags : SessionFlags) (mode : Mode) : Type 0 where

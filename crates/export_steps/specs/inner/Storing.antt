@@ -8,7 +8,7 @@ use Rattle.std.specs.FinMap.{len}
 use Rattle.order_book.specs.Order.{OrderState, Seals, with_clean, with_durable, with_group}
 use Rattle.export_steps.specs.Parts.{IsKeeperOf, IsOrderOf}
 use Rattle.export_model.specs.declared.event.Event.{Event}
-use Rattle.export_model.specs.declared.event.Event.TheVariants.{Took, Held, Failed}
+use Rattle.export_model.specs.declared.event.Event.TheVariants.{Took, Skipped, Failed}
 use Rattle.export_model.specs.declared.event.StepFault.TheVariants.{NoMemory, DeviceFault, NumbersFull, FailedBefore}
 use Rattle.export_model.specs.World.{World}
 
@@ -16,15 +16,15 @@ use Rattle.export_model.specs.World.{World}
 abbrev pub event_of : KeeperFault → Event
 event_of fault.NoMemory = Failed NoMemory
 event_of fault.DeviceFault = Failed DeviceFault
-event_of fault.BadMap = Held
-event_of fault.NoHeader = Held
-event_of fault.BadHeader = Held
-event_of fault.NumbersFull = Held
-event_of fault.AreaFull = Held
-event_of fault.OutOfOrder = Held
-event_of fault.DamagedGroup = Held
-event_of fault.NotNow = Held
-event_of fault.AreaSmall = Held
+event_of fault.BadMap = Skipped
+event_of fault.NoHeader = Skipped
+event_of fault.BadHeader = Skipped
+event_of fault.NumbersFull = Skipped
+event_of fault.AreaFull = Skipped
+event_of fault.OutOfOrder = Skipped
+event_of fault.DamagedGroup = Skipped
+event_of fault.NotNow = Skipped
+event_of fault.AreaSmall = Skipped
 event_of fault.Failed = Failed FailedBefore
 
 -- the order after it: the group is pending again, but where memory was refused, and a device fault stops the order
@@ -64,9 +64,9 @@ CanSeal order = (order.pending ≡ [] → ⊥) × (order.durable < order.sealed 
 -- sealing with these hands before and after: nothing with a group in hand or where there is nothing to seal, and else a
 -- group or no memory
 abbrev pub SealsBy : Option Numbered → OrderState → OrderState → Option Numbered → Event → Type 0
-SealsBy (Some group) old new after event = (new ≡ old) × (after ≡ Some group) × (event ≡ Held)
+SealsBy (Some group) old new after event = (new ≡ old) × (after ≡ Some group) × (event ≡ Skipped)
 SealsBy None old new after event =
-    (((old.pending ≡ []) ⊎ (old.durable < old.sealed)) × (new ≡ old) × (after ≡ None) × (event ≡ Held))
+    (((old.pending ≡ []) ⊎ (old.durable < old.sealed)) × (new ≡ old) × (after ≡ None) × (event ≡ Skipped))
     ⊎ ((CanSeal old × (new ≡ old) × (after ≡ None) × (event ≡ Failed NoMemory))
     ⊎ ((group : Numbered) × CanSeal old × Seals old new group × (after ≡ Some group) × (event ≡ Took)))
 
@@ -74,7 +74,7 @@ SealsBy None old new after event =
 abbrev pub PublishesBy : ℕ → OrderState → OrderState → Event → Type 0
 PublishesBy count old new event =
     ((old.durable < count) × (new ≡ with_durable old count) × (event ≡ Took))
-    ⊎ ((count ≤ old.durable) × (new ≡ old) × (event ≡ Held))
+    ⊎ ((count ≤ old.durable) × (new ≡ old) × (event ≡ Skipped))
 
 -- The order and the keeper are those of the next world, and the connections stay as they are.
 pub record IsKept {D : Type 0} (world next : World) (event : Event) (order : OrderState) (group : Option Numbered) (keeper : KeeperState D) (failures : ℕ) : Type 0 where
@@ -87,15 +87,15 @@ pub record IsKept {D : Type 0} (world next : World) (event : Event) (order : Ord
 abbrev pub step_event : KeeperFault → Event
 step_event fault.NoMemory = Failed NoMemory
 step_event fault.DeviceFault = Failed DeviceFault
-step_event fault.BadMap = Held
-step_event fault.NoHeader = Held
-step_event fault.BadHeader = Held
+step_event fault.BadMap = Skipped
+step_event fault.NoHeader = Skipped
+step_event fault.BadHeader = Skipped
 step_event fault.NumbersFull = Failed NumbersFull
-step_event fault.AreaFull = Held
-step_event fault.OutOfOrder = Held
-step_event fault.DamagedGroup = Held
-step_event fault.NotNow = Held
-step_event fault.AreaSmall = Held
+step_event fault.AreaFull = Skipped
+step_event fault.OutOfOrder = Skipped
+step_event fault.DamagedGroup = Skipped
+step_event fault.NotNow = Skipped
+step_event fault.AreaSmall = Skipped
 step_event fault.Failed = Failed FailedBefore
 
 -- the order once the device has failed: it is stopped, and a group in hand is pending again
@@ -136,4 +136,4 @@ hand_refused fault.Failed hand = hand
 abbrev pub CleansBy : ℕ → OrderState → OrderState → Event → Type 0
 CleansBy number old new event =
     ((len (with_clean old number).dirty < len old.dirty) × (new ≡ with_clean old number) × (event ≡ Took))
-    ⊎ ((with_clean old number ≡ old) × (new ≡ old) × (event ≡ Held))
+    ⊎ ((with_clean old number ≡ old) × (new ≡ old) × (event ≡ Skipped))

@@ -5,7 +5,7 @@ use mathlib.Core.List.{IsPrefix}
 use Rattle.atomic_table.specs.Table.{Step, Me}
 use Rattle.image_model.specs.Change.{Change, change_of}
 use Rattle.export_model.specs.declared.event.Event.{Event}
-use Rattle.export_model.specs.declared.event.Event.TheVariants.{Sent, Answered, Numbered, Took, Held, Failed}
+use Rattle.export_model.specs.declared.event.Event.TheVariants.{Sent, Answered, Numbered, Took, Skipped, Failed}
 use Rattle.export_model.specs.declared.step.Mode.{Mode}
 use Rattle.marks.specs.Client.{accepting, answering, flushing, new_client, nobody, sending}
 use Rattle.marks.specs.declared.said.Said.{Said}
@@ -89,7 +89,7 @@ speaking client (Sent by request) = sending client request
 speaking client (Answered by outcome) = answering client outcome
 speaking client (Numbered by number) = client
 speaking client Took = client
-speaking client Held = client
+speaking client Skipped = client
 speaking client (Failed fault) = client
 
 abbrev pub speaking_of : Client → Said → Client

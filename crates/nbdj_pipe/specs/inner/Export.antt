@@ -48,8 +48,8 @@ IsSettled order = (order.stopped ≡ true) ⊎ (order.durable ≡ order.mark)
 -- last two had anything to do, and else it is stored or the device has failed; or memory was refused.
 abbrev pub StoredBy : Event → Event → Event → Result Bool Refusal → Type 0
 StoredBy sealed appended published (Ok true) =
-    ((fault : StepFault) → sealed ≢ Event.Failed fault) × (appended ≢ Event.Failed StepFault.NoMemory) × (appended ≡ Event.Held → published ≢ Event.Held)
-StoredBy sealed appended published (Ok false) = ((fault : StepFault) → sealed ≢ Event.Failed fault) × (appended ≡ Event.Held) × (published ≡ Event.Held)
+    ((fault : StepFault) → sealed ≢ Event.Failed fault) × (appended ≢ Event.Failed StepFault.NoMemory) × (appended ≡ Event.Skipped → published ≢ Event.Skipped)
+StoredBy sealed appended published (Ok false) = ((fault : StepFault) → sealed ≢ Event.Failed fault) × (appended ≡ Event.Skipped) × (published ≡ Event.Skipped)
 StoredBy sealed appended published (Err refusal) = refusal ≡ NoMemory
 
 -- Storing got on: a call of the device has failed, or more is durable.

@@ -15,7 +15,7 @@ ghost use Rattle.order_book.specs.Order.{IsNumbered, has_room_for, refusal_for};
 
 use super::{MOST_BACKLOG_BYTES, Order};
 use crate::edits::{
-    ZERO_BLOCK, body_for, command_for, has_frames_for, is_whole_put, lacks_old, of_keeper,
+    ZERO_BLOCK, body_for, command_for, from_keeper_fault, has_frames_for, is_whole_put, lacks_old,
     put_again, read_old, whole_put,
 };
 use crate::fault::OrderFault;
@@ -27,7 +27,7 @@ use marks::{Board, BoardName, Pass, Trust};
 // Edits in bytes, each of which an order takes as the command that it becomes over all that was accepted.
 impl<B: BoardName> Order<B> {
     /// Whether an edit needs old bytes that aren't in memory, and nothing else refuses it before they are read: whether
-    /// `accept_edit` is to be called, and not `accept_held`.
+    /// `accept_edit` is to be called, and not `accept_in_memory`.
     pub fn needs_device(&self, edit: &Edit) -> bool
         requires edit { IsEdit (length self.now.cache.states) (edit_of edit.now) }
         requires few { length self.now.cache.states ≤ 16777216 }
@@ -42,7 +42,7 @@ impl<B: BoardName> Order<B> {
         requires few { length self.now.cache.states ≤ 16777216 }
         ensures { result ≡ refusal_for self.now (becomes (edit_of edit.now) (image_in self.now.cache)) }
     {
-        if self.stopped() {
+        if self.is_stopped() {
             return Some(OrderFault::Stopped);
         }
         if self.mark() == u64::MAX {
@@ -67,7 +67,7 @@ impl<B: BoardName> Order<B> {
     /// become those of its command, and aren't copied.
     ///
     /// Refusals 18 (stopped), 9 (numbers full), 17 (no room), 0 (no memory), in this order.
-    pub fn accept_held<T: Trust>(
+    pub fn accept_in_memory<T: Trust>(
         &mut self,
         board: &Board<B, T>,
         pass: &mut Pass<B>,
@@ -241,13 +241,13 @@ impl<B: BoardName> Order<B> {
     {
         let _mark = self.mark();
         if !self.needs_device(&edit) {
-            return self.accept_held(board, pass, edit);
+            return self.accept_in_memory(board, pass, edit);
         }
         let mut head = ZERO_BLOCK;
         let mut tail = ZERO_BLOCK;
         match read_old(&self.cache, keeper, &edit, &mut head, &mut tail) {
             Ok(()) => self.take_edit(board, pass, edit, &head, &tail),
-            Err(fault) => Err((of_keeper(fault), edit)),
+            Err(fault) => Err((from_keeper_fault(fault), edit)),
         }
     }
 }

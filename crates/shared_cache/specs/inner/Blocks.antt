@@ -1,10 +1,10 @@
 -- Definitions for contracts between functions of this crate, next to those of `Blocks`.
 use Rattle.std.specs.Prelude.{◌≡◌, ◌≤◌, ◌+◌, drop, ℕ, ◌≢◌}
 use Rattle.shared_cache.specs.Blocks.{BlocksState, taken}
-use Rattle.shared_cache.specs.Held.{HeldState, block_at, held_times}
+use Rattle.shared_cache.specs.CachedBlocks.{CachedState, block_at, held_times}
 
 -- The block isn't held.
-abbrev pub IsMissing : ℕ → HeldState → Type 0
+abbrev pub IsMissing : ℕ → CachedState → Type 0
 IsMissing block held = (frame : ℕ) → 1 ≤ held_times frame held.pool → block_at held.blocks frame ≢ block
 
 -- the frame of the clean front is free

@@ -8,7 +8,7 @@ use Rattle.image_model.specs.declared.command.Kind.{Kind}
 use Rattle.image_model.specs.declared.command.Kind.TheVariants.{Data}
 use Rattle.image_model.specs.Image.{covers}
 use Rattle.image_model.specs.laws.Positions.{length-patched}
-use Rattle.shared_cache.specs.Blocks.{BlocksState, IsOnce, at_hand, count_missing, edges_missing, is_dirty, is_held, with_put, with_puts, without}
+use Rattle.shared_cache.specs.Blocks.{BlocksState, IsOnce, available_frames, count_missing, edges_missing, is_dirty, is_cached, with_put, with_puts, without}
 use Rattle.shared_cache.specs.Cache.{CacheState, bytes_seen, with_cleared, with_edges, with_written}
 use Rattle.shared_cache.specs.View.{KeepsBytes, ShowsEdges, ShowsClear, ShowsPut, is_edge}
 use Rattle.shared_cache.specs.laws.Once.{absent_all, all_held, all_held-without, as_clean, dirty_none, not_held, out_dirty, out_none, out_times, times_in, times_in-append}
@@ -30,7 +30,7 @@ count_without inside first (suc count) s apart =
     rw (out_dirty inside first s.dirty (apart first (omega arith) (omega arith)))
     (ap (λ (n : ℕ). (if is_dirty first s then 0 else 1) + n) (count_without inside (first + 1) count s (λ block above below. apart block (omega (arith, above)) (omega (arith, below)))))
 
-pub hand_without : (inside : ℕ → Bool) (s : BlocksState) → at_hand s ≤ at_hand (without inside s)
+pub hand_without : (inside : ℕ → Bool) (s : BlocksState) → available_frames s ≤ available_frames (without inside s)
 hand_without inside s = omega (arith, clean_le inside s.clean, outside_le inside s.dirty)
 
 -- puts before a range change none of its count, and take no more frames than blocks of theirs were missing
@@ -42,28 +42,28 @@ count_puts number first (bytes ∷ blocks) from count s before =
     ∙ count_put number first from count bytes s (omega (arith, before))
 
 pub hand_puts : (number first : ℕ) (blocks : List (List ℕ)) (s : BlocksState)
-    → at_hand s ≤ at_hand (with_puts number first blocks s) + count_missing first (length blocks) s
+    → available_frames s ≤ available_frames (with_puts number first blocks s) + count_missing first (length blocks) s
 hand_puts number first [] s = omega arith
 hand_puts number first (bytes ∷ blocks) s =
     omega (arith, at_hand_put number first bytes s, hand_puts number (first + 1) blocks (with_put number first bytes s), count_put number first (first + 1) (length blocks) bytes s (omega arith))
 
 -- the edges find frames: those of the head once what lies between is let go, and those of the tail after those of the head
-pub room_at_head : (first count head tail : ℕ) (s mid : BlocksState) → head + tail ≤ count → edges_missing first count head tail s ≤ at_hand s
-    → mid ≡ without (covers (first + head) (first + count - tail - (first + head))) s → count_missing first head mid ≤ at_hand mid
+pub room_at_head : (first count head tail : ℕ) (s mid : BlocksState) → head + tail ≤ count → edges_missing first count head tail s ≤ available_frames s
+    → mid ≡ without (covers (first + head) (first + count - tail - (first + head))) s → count_missing first head mid ≤ available_frames mid
 room_at_head first count head tail s mid fits room is =
     let inside = covers (first + head) (first + count - tail - (first + head)) in
     rw is (omega (arith, room, hand_without inside s, count_without inside first head s (λ block above below. before (first + head) (first + count - tail - (first + head)) block below)))
 
 pub room_at_tail : (number first count tail : ℕ) (head : List (List ℕ)) (s mid last : BlocksState) → length head + tail ≤ count
-    → edges_missing first count (length head) tail s ≤ at_hand s
+    → edges_missing first count (length head) tail s ≤ available_frames s
     → mid ≡ without (covers (first + length head) (first + count - tail - (first + length head))) s → last ≡ with_puts number first head mid
-    → count_missing (first + count - tail) tail last ≤ at_hand last
+    → count_missing (first + count - tail) tail last ≤ available_frames last
 room_at_tail number first count tail head s mid last fits room is put =
     let inside = covers (first + length head) (first + count - tail - (first + length head)) in
     let behind = first + count - tail in
     let at_head = ap (count_missing first (length head)) is ∙ count_without inside first (length head) s (λ block above below. before (first + length head) (behind - (first + length head)) block below) in
     let at_tail = ap (count_missing behind tail) is ∙ count_without inside behind tail s (λ block above below. after (first + length head) (behind - (first + length head)) block (omega (arith, above, fits))) in
-    let hand : at_hand s ≤ at_hand mid = rw is (hand_without inside s) in
+    let hand : available_frames s ≤ available_frames mid = rw is (hand_without inside s) in
     rw put (omega (arith, room, at_head, at_tail, hand, hand_puts number first head mid, count_puts number first head behind tail mid (omega (arith, fits))))
 
 -- each block is held once still
@@ -237,7 +237,7 @@ module _ (number first count : ℕ) (kind : Kind) (head tail : List (List ℕ)) 
       (shows_headed.written k d below)
 
   between_seen : (block : ℕ) → covers first count block ≡ true → is_edge first count (length head) (length tail) block ≡ false
-      → (bytes_seen last block ≡ Some (replicate 4096 0)) × (is_held block last.blocks ≡ false)
+      → (bytes_seen last block ≡ Some (replicate 4096 0)) × (is_cached block last.blocks ≡ false)
   between_seen block within no_edge =
       elim (place_of first count (length head) (length tail) block fits) [
         | inl p ↦ elim p [
@@ -273,7 +273,7 @@ module _ (number first count : ℕ) (kind : Kind) (head tail : List (List ℕ)) 
         ]
       ]
     where
-      gone : (block : ℕ) → is_held block cleared.blocks ≡ false → times_in block (map as_clean cleared.blocks.dirty) ≡ 0
+      gone : (block : ℕ) → is_cached block cleared.blocks ≡ false → times_in block (map as_clean cleared.blocks.dirty) ≡ 0
       gone block none = omega (arith, absent_all block cleared.blocks none, times_in-append block cleared.blocks.clean (map as_clean cleared.blocks.dirty))
 
   others_keep : (block : ℕ) → covers first count block ≡ false → KeepsBytes (length head + length tail) old last block

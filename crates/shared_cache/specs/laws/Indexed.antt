@@ -8,7 +8,7 @@ use Rattle.std.proofs.Math.Dec.{eqb, leb}
 use Rattle.frame_pool.specs.Lists.{times, without, total}
 use Rattle.frame_pool.specs.Pool.{DirtyFrame, PoolState, IsPool, frames_of, lists_in, others, front_through, with_bytes, with_free, with_clean, with_dirty}
 use Rattle.frame_pool.specs.laws.Times.{times-append, times-without_same, times-without_other, times_head, times_other}
-use Rattle.shared_cache.specs.Held.{HeldState, IsHeld, IsIndexed, block_at, held_times}
+use Rattle.shared_cache.specs.CachedBlocks.{CachedState, IsHeld, IsIndexed, block_at, held_times}
 use Rattle.shared_cache.specs.inner.Blocks.{IsMissing}
 
 pub frames_of-others : (frame : ℕ) (dirty : List DirtyFrame) → frames_of (others frame dirty) ≡ without frame (frames_of dirty)
@@ -191,22 +191,22 @@ indexed-let_go pool pool' blocks lookup lookup' frame read is moved kept held wa
     (λ other ne. rw moved (held_times-free_other frame other pool ne))
     (λ q. found q ∙ ap (λ (v : ℕ). if eqb q v then None else lookup q) e)
 
-pub indexed-hold_dirty : (pool pool' : PoolState) (blocks : List ℕ) (lookup lookup' : ℕ → Option ℕ) (frame block number : ℕ) (bytes : List ℕ)
+pub indexed-assign_dirty : (pool pool' : PoolState) (blocks : List ℕ) (lookup lookup' : ℕ → Option ℕ) (frame block number : ℕ) (bytes : List ℕ)
     → IsIndexed pool blocks lookup → pool' ≡ with_bytes frame bytes (with_dirty frame number pool) → IsPool pool' → 1 ≤ times frame pool.free
     → ((other : ℕ) → 1 ≤ held_times other pool → block_at blocks other ≢ block)
     → ((q : ℕ) → lookup' q ≡ (if eqb q block then Some frame else lookup q))
     → IsIndexed pool' (set blocks frame block) lookup'
-indexed-hold_dirty pool pool' blocks lookup lookup' frame block number bytes is moved kept free missing found =
+indexed-assign_dirty pool pool' blocks lookup lookup' frame block number bytes is moved kept free missing found =
     let below : frame < length blocks = omega (arith, frame_below frame pool is.pool_kept (omega (arith, free)), is.size) in
     IsIndexed-set pool pool' blocks lookup lookup' frame block is kept (rw moved (length-set pool.bytes frame bytes)) below (free_apart frame pool is.pool_kept free)
     (rw moved (held_times-dirty_same frame number pool)) (λ other ne. rw moved (held_times-dirty_other frame number other pool ne)) missing found
 
-pub indexed-hold_clean : (pool pool' : PoolState) (blocks : List ℕ) (lookup lookup' : ℕ → Option ℕ) (frame block : ℕ) (bytes : List ℕ)
+pub indexed-assign_clean : (pool pool' : PoolState) (blocks : List ℕ) (lookup lookup' : ℕ → Option ℕ) (frame block : ℕ) (bytes : List ℕ)
     → IsIndexed pool blocks lookup → pool' ≡ with_bytes frame bytes (with_clean frame pool) → IsPool pool' → 1 ≤ times frame pool.free
     → ((other : ℕ) → 1 ≤ held_times other pool → block_at blocks other ≢ block)
     → ((q : ℕ) → lookup' q ≡ (if eqb q block then Some frame else lookup q))
     → IsIndexed pool' (set blocks frame block) lookup'
-indexed-hold_clean pool pool' blocks lookup lookup' frame block bytes is moved kept free missing found =
+indexed-assign_clean pool pool' blocks lookup lookup' frame block bytes is moved kept free missing found =
     let below : frame < length blocks = omega (arith, frame_below frame pool is.pool_kept (omega (arith, free)), is.size) in
     IsIndexed-set pool pool' blocks lookup lookup' frame block is kept (rw moved (length-set pool.bytes frame bytes)) below (free_apart frame pool is.pool_kept free)
     (rw moved (held_times-clean_same frame pool)) (λ other ne. rw moved (held_times-clean_other frame other pool ne)) missing found
@@ -242,14 +242,14 @@ indexed-clean_front pool pool' blocks lookup number (Some frame) is kept front s
     (λ other ne. rw some (held_times-clean_other frame other pool ne))
 
 -- a fact of the value is one of what is inside
-pub held_seen : (frame : ℕ) (held now : HeldState) → held ≡ now → 1 ≤ held_times frame now.pool → 1 ≤ held_times frame held.pool
-held_seen frame held now is some = let P : HeldState → Type 0 = λ seen. 1 ≤ held_times frame seen.pool in subst P (sym is) some
+pub held_seen : (frame : ℕ) (held now : CachedState) → held ≡ now → 1 ≤ held_times frame now.pool → 1 ≤ held_times frame held.pool
+held_seen frame held now is some = let P : CachedState → Type 0 = λ seen. 1 ≤ held_times frame seen.pool in subst P (sym is) some
 
-pub free_seen : (frame : ℕ) (held now : HeldState) → held ≡ now → 1 ≤ times frame now.pool.free → 1 ≤ times frame held.pool.free
-free_seen frame held now is some = let P : HeldState → Type 0 = λ seen. 1 ≤ times frame seen.pool.free in subst P (sym is) some
+pub free_seen : (frame : ℕ) (held now : CachedState) → held ≡ now → 1 ≤ times frame now.pool.free → 1 ≤ times frame held.pool.free
+free_seen frame held now is some = let P : CachedState → Type 0 = λ seen. 1 ≤ times frame seen.pool.free in subst P (sym is) some
 
-pub missing_seen : (block : ℕ) (held now : HeldState) → held ≡ now → IsMissing block now → IsMissing block held
-missing_seen block held now is missing = let P : HeldState → Type 0 = λ seen. IsMissing block seen in subst P (sym is) missing
+pub missing_seen : (block : ℕ) (held now : CachedState) → held ≡ now → IsMissing block now → IsMissing block held
+missing_seen block held now is missing = let P : CachedState → Type 0 = λ seen. IsMissing block seen in subst P (sym is) missing
 
 -- another look-up that finds the same
 pub indexed_agree : (pool : PoolState) (blocks : List ℕ) (lookup lookup' : ℕ → Option ℕ) → IsIndexed pool blocks lookup

@@ -10,7 +10,7 @@ use Rattle.frame_pool.specs.Pool.{DirtyFrame, PoolState, IsPool, frames_of, list
 use Rattle.frame_pool.specs.laws.Times.{times-without_same, length-without, without_absent, times_head}
 use Rattle.shared_cache.specs.Blocks.{BlocksState, CleanBlock, DirtyBlock, clean_outside, dirty_outside, without, with_put}
 use Rattle.shared_cache.specs.inner.Blocks.{evicted}
-use Rattle.shared_cache.specs.Held.{HeldState, IsHeld, block_at, bytes_at, blocks_of, clean_block, dirty_block, held_times}
+use Rattle.shared_cache.specs.CachedBlocks.{CachedState, IsHeld, block_at, bytes_at, blocks_of, clean_block, dirty_block, held_times}
 use Rattle.shared_cache.specs.laws.Indexed.{frames_of-others, free_apart, frame_below}
 
 -- the blocks of frames without one frame are those without its block
@@ -84,7 +84,7 @@ stands_once frame pool is some =
     ]
 
 -- a frame let go of its block
-pub blocks_of-free : (held : HeldState) (frame : ℕ) → IsHeld held → 1 ≤ held_times frame held.pool
+pub blocks_of-free : (held : CachedState) (frame : ℕ) → IsHeld held → 1 ≤ held_times frame held.pool
     → blocks_of (with_free frame held.pool) held.blocks ≡ without (λ b. b == block_at held.blocks frame) (blocks_of held.pool held.blocks)
 blocks_of-free held frame is some =
     let pool = held.pool in
@@ -118,10 +118,10 @@ same_blocks : (free free' : ℕ) (clean clean' : List CleanBlock) (dirty dirty' 
 same_blocks free free' clean clean' dirty dirty' a b c = rw (a, b, c) refl
 
 -- a free frame holds a block, which is dirty
-pub blocks_of-hold_dirty : (held : HeldState) (frame block number : ℕ) (bytes : List ℕ) → IsHeld held → 1 ≤ times frame held.pool.free
+pub blocks_of-assign_dirty : (held : CachedState) (frame block number : ℕ) (bytes : List ℕ) → IsHeld held → 1 ≤ times frame held.pool.free
     → blocks_of (with_bytes frame bytes (with_dirty frame number held.pool)) (set held.blocks frame block)
     ≡ (let s = blocks_of held.pool held.blocks in record { free = s.free - 1; clean = s.clean; dirty = s.dirty ++ record { block = block; number = number; bytes = bytes } ∷ [] })
-blocks_of-hold_dirty held frame block number bytes is some =
+blocks_of-assign_dirty held frame block number bytes is some =
     let pool = held.pool in
     let blocks = held.blocks in
     let pool' = with_bytes frame bytes (with_dirty frame number pool) in
@@ -141,10 +141,10 @@ blocks_of-hold_dirty held frame block number bytes is some =
     ∙ ap (λ (list : List DirtyBlock). list ++ dirty_block pool' blocks' mine ∷ []) dirty
     ∙ ap (λ (h : DirtyBlock). map (λ (h : DirtyFrame). dirty_block pool blocks h) pool.dirty ++ h ∷ []) now)
 
-pub blocks_of-hold_clean : (held : HeldState) (frame block : ℕ) (bytes : List ℕ) → IsHeld held → 1 ≤ times frame held.pool.free
+pub blocks_of-assign_clean : (held : CachedState) (frame block : ℕ) (bytes : List ℕ) → IsHeld held → 1 ≤ times frame held.pool.free
     → blocks_of (with_bytes frame bytes (with_clean frame held.pool)) (set held.blocks frame block)
     ≡ (let s = blocks_of held.pool held.blocks in record { free = s.free - 1; clean = s.clean ++ record { block = block; bytes = bytes } ∷ []; dirty = s.dirty })
-blocks_of-hold_clean held frame block bytes is some =
+blocks_of-assign_clean held frame block bytes is some =
     let pool = held.pool in
     let blocks = held.blocks in
     let pool' = with_bytes frame bytes (with_clean frame pool) in
@@ -171,7 +171,7 @@ put_after number block bytes s rest is =
     ap (λ (left : BlocksState). let now : BlocksState = record { free = left.free - 1; clean = drop (1 - left.free) left.clean; dirty = left.dirty ++ record { block = block; number = number; bytes = bytes } ∷ [] } in now) is
 
 -- the block of a frame written again
-pub blocks_of-write_again : (held : HeldState) (frame number : ℕ) (bytes : List ℕ) → IsHeld held → 1 ≤ held_times frame held.pool
+pub blocks_of-write_again : (held : CachedState) (frame number : ℕ) (bytes : List ℕ) → IsHeld held → 1 ≤ held_times frame held.pool
     → blocks_of (with_bytes frame bytes (with_dirty frame number held.pool)) held.blocks
     ≡ with_put number (block_at held.blocks frame) bytes (blocks_of held.pool held.blocks)
 blocks_of-write_again held frame number bytes is some =
@@ -196,7 +196,7 @@ blocks_of-write_again held frame number bytes is some =
     ∙ ap (λ (h : DirtyBlock). map (λ (h : DirtyFrame). dirty_block pool blocks h) (others frame pool.dirty) ++ h ∷ []) now))
 
 -- the front of the dirty frames is clean
-pub blocks_of-clean_front : (held : HeldState) (first : DirtyFrame) (rest : List DirtyFrame) → IsHeld held → held.pool.dirty ≡ first ∷ rest
+pub blocks_of-clean_front : (held : CachedState) (first : DirtyFrame) (rest : List DirtyFrame) → IsHeld held → held.pool.dirty ≡ first ∷ rest
     → blocks_of (with_clean first.frame held.pool) held.blocks
     ≡ (let s = blocks_of held.pool held.blocks in record { free = s.free; clean = s.clean ++ clean_block held.pool held.blocks first.frame ∷ []; dirty = drop 1 s.dirty })
 blocks_of-clean_front held first rest is front =
@@ -216,7 +216,7 @@ blocks_of-clean_front held first rest is front =
     ∙ ap (λ (list : List DirtyFrame). drop 1 (map g list)) (sym front))
 
 -- the front of the clean frames is free
-pub blocks_of-evict : (held : HeldState) (frame : ℕ) → IsHeld held → slice_get held.pool.clean 0 ≡ Some frame
+pub blocks_of-evict : (held : CachedState) (frame : ℕ) → IsHeld held → slice_get held.pool.clean 0 ≡ Some frame
     → (blocks_of (with_free frame held.pool) held.blocks ≡ evicted (blocks_of held.pool held.blocks)) × (others frame held.pool.dirty ≡ held.pool.dirty)
 blocks_of-evict held frame is front =
     let pool = held.pool in

@@ -10,10 +10,10 @@ use Rattle.frame_pool.specs.Pool.{DirtyFrame, PoolState, frames_of, others, with
 use Rattle.std.proofs.lemmas.List.{length-map, nil_from_length}
 use Rattle.frame_pool.specs.laws.Times.{times_head, times_other}
 use Rattle.shared_cache.specs.laws.Indexed.{held_before, held_times-free_same}
-use Rattle.shared_cache.specs.laws.Kept.{blocks_of-free, blocks_of-hold_dirty, blocks_of-hold_clean, blocks_of-write_again}
-use Rattle.shared_cache.specs.Blocks.{BlocksState, CleanBlock, DirtyBlock, clean_outside, dirty_outside, is_clean, is_dirty, is_held, taken, count_missing, HasNoFrame, with_fill, with_put, without}
+use Rattle.shared_cache.specs.laws.Kept.{blocks_of-free, blocks_of-assign_dirty, blocks_of-assign_clean, blocks_of-write_again}
+use Rattle.shared_cache.specs.Blocks.{BlocksState, CleanBlock, DirtyBlock, clean_outside, dirty_outside, is_clean, is_dirty, is_cached, taken, count_missing, HasNoFrame, with_fill, with_put, without}
 use Rattle.shared_cache.specs.inner.Blocks.{taken_leaves, IsMissing}
-use Rattle.shared_cache.specs.Held.{HeldState, IsHeld, block_at, blocks_of, clean_block, dirty_block, held_times}
+use Rattle.shared_cache.specs.CachedBlocks.{CachedState, IsHeld, block_at, blocks_of, clean_block, dirty_block, held_times}
 
 -- a dirty frame's block is dirty, another one isn't
 dirty_among : (pool : PoolState) (blocks : List ℕ) (frame : ℕ) (dirty : List DirtyFrame)
@@ -29,15 +29,15 @@ dirty_among pool blocks frame (held ∷ dirty) apart =
           rw (p.0, ne_eqb (block_at blocks held.frame) (block_at blocks frame) away) rest
     ]
 
-pub is_dirty-frame : (held now : HeldState) (frame block : ℕ) → held ≡ now → IsHeld now → (1 ≤ held_times frame now.pool) × (block_at now.blocks frame ≡ block)
+pub is_dirty-frame : (held now : CachedState) (frame block : ℕ) → held ≡ now → IsHeld now → (1 ≤ held_times frame now.pool) × (block_at now.blocks frame ≡ block)
     → is_dirty_frame frame held.pool.dirty ≡ is_dirty block (blocks_of now.pool now.blocks)
 is_dirty-frame held now frame block same is found =
-    ap (λ (h : HeldState). is_dirty_frame frame h.pool.dirty) same
+    ap (λ (h : CachedState). is_dirty_frame frame h.pool.dirty) same
     ∙ dirty_among now.pool now.blocks frame now.pool.dirty (λ other there e. is.apart other frame (omega (arith, there)) found.0 e)
     ∙ ap (λ (b : ℕ). is_dirty b (blocks_of now.pool now.blocks)) found.1
 
 -- a block that isn't held is neither dirty nor clean
-pub is_dirty-missing : (block : ℕ) (held : HeldState) → IsMissing block held → is_dirty block (blocks_of held.pool held.blocks) ≡ false
+pub is_dirty-missing : (block : ℕ) (held : CachedState) → IsMissing block held → is_dirty block (blocks_of held.pool held.blocks) ≡ false
 is_dirty-missing block held missing = none_dirty held.pool held.blocks block held.pool.dirty (λ frame there. missing frame (omega (arith, there)))
   where
     none_dirty : (pool : PoolState) (blocks : List ℕ) (block : ℕ) (dirty : List DirtyFrame)
@@ -48,7 +48,7 @@ is_dirty-missing block held missing = none_dirty held.pool held.blocks block hel
         rw (ne_eqb (block_at blocks h.frame) block (away h.frame (omega (arith, times_head h.frame (frames_of dirty)))))
         (none_dirty pool blocks block dirty (λ frame there. away frame (omega (arith, there))))
 
-pub is_clean-missing : (block : ℕ) (held : HeldState) → IsMissing block held → is_clean block (blocks_of held.pool held.blocks) ≡ false
+pub is_clean-missing : (block : ℕ) (held : CachedState) → IsMissing block held → is_clean block (blocks_of held.pool held.blocks) ≡ false
 is_clean-missing block held missing = none_clean held.pool held.blocks block held.pool.clean (λ frame there. missing frame (omega (arith, there)))
   where
     none_clean : (pool : PoolState) (blocks : List ℕ) (block : ℕ) (frames : List ℕ)
@@ -86,7 +86,7 @@ without_none inside blocks clean dirty =
     rw (clean_all inside blocks.clean clean, dirty_all inside blocks.dirty dirty)
     (ap (λ (n : ℕ). let s : BlocksState = record { free = n; clean = blocks.clean; dirty = blocks.dirty } in s) (omega arith))
 
-pub without_missing : (block : ℕ) (held : HeldState) → IsMissing block held → without (λ b. b == block) (blocks_of held.pool held.blocks) ≡ blocks_of held.pool held.blocks
+pub without_missing : (block : ℕ) (held : CachedState) → IsMissing block held → without (λ b. b == block) (blocks_of held.pool held.blocks) ≡ blocks_of held.pool held.blocks
 without_missing block held missing =
     without_none (λ b. b == block) (blocks_of held.pool held.blocks) (is_clean-missing block held missing) (is_dirty-missing block held missing)
 
@@ -101,7 +101,7 @@ put_taken number block bytes s left same leaves =
     let add = λ (t : BlocksState). let grown : BlocksState = record { free = t.free; clean = t.clean; dirty = t.dirty ++ record { block = block; number = number; bytes = bytes } ∷ [] } in grown in
     ap add (sym now ∙ leaves.0 ∙ ap taken (sym same))
 
-pub fill_taken : (block : ℕ) (bytes : List ℕ) (s left : BlocksState) → is_held block s ≡ false → taken_leaves s left
+pub fill_taken : (block : ℕ) (bytes : List ℕ) (s left : BlocksState) → is_cached block s ≡ false → taken_leaves s left
     → (let now : BlocksState = record { free = left.free - 1; clean = left.clean ++ record { block = block; bytes = bytes } ∷ []; dirty = left.dirty } in now)
     ≡ with_fill block bytes s
 fill_taken block bytes s left missing leaves =
@@ -111,8 +111,8 @@ fill_taken block bytes s left missing leaves =
     let add = λ (t : BlocksState). let grown : BlocksState = record { free = t.free; clean = t.clean ++ record { block = block; bytes = bytes } ∷ []; dirty = t.dirty } in grown in
     ap add (sym now ∙ leaves.0) ∙ rw missing refl
 
-pub is_held-missing : (block : ℕ) (held : HeldState) → IsMissing block held → is_held block (blocks_of held.pool held.blocks) ≡ false
-is_held-missing block held missing = rw (is_clean-missing block held missing, is_dirty-missing block held missing) refl
+pub is_cached-missing : (block : ℕ) (held : CachedState) → IsMissing block held → is_cached block (blocks_of held.pool held.blocks) ≡ false
+is_cached-missing block held missing = rw (is_clean-missing block held missing, is_dirty-missing block held missing) refl
 
 -- no dirty frame has a larger number once one was written with it
 pub order_put : (frame number : ℕ) (pool : PoolState) → All (λ (h : DirtyFrame). h.number ≤ number) pool.dirty
@@ -145,10 +145,10 @@ any_dirty pool blocks frame (h ∷ dirty) some =
           rw p.0 (any_dirty pool blocks frame dirty (omega (arith, some, times_other frame h.frame (frames_of dirty) ne)))
     ]
 
-pub is_held-frame : (held : HeldState) (frame block : ℕ) → (1 ≤ held_times frame held.pool) × (block_at held.blocks frame ≡ block)
-    → is_held block (blocks_of held.pool held.blocks) ≡ true
-is_held-frame held frame block found =
-    ap (λ (b : ℕ). is_held b (blocks_of held.pool held.blocks)) (sym found.1)
+pub is_cached-frame : (held : CachedState) (frame block : ℕ) → (1 ≤ held_times frame held.pool) × (block_at held.blocks frame ≡ block)
+    → is_cached block (blocks_of held.pool held.blocks) ≡ true
+is_cached-frame held frame block found =
+    ap (λ (b : ℕ). is_cached b (blocks_of held.pool held.blocks)) (sym found.1)
     ∙ elim (cases_lt (times frame held.pool.clean) 1) [
       | inl none ↦ or_right _ _ (any_dirty held.pool held.blocks frame held.pool.dirty (omega (arith, found.0, none)))
       | inr some ↦ rw (any_clean held.pool held.blocks frame held.pool.clean some) refl
@@ -159,7 +159,7 @@ is_held-frame held frame block found =
     or_right false b e = e
 
 -- what each write leaves of the blocks
-pub blocks-write_again : (held new : HeldState) (frame block number : ℕ) (bytes : List ℕ) → IsHeld held
+pub blocks-write_again : (held new : CachedState) (frame block number : ℕ) (bytes : List ℕ) → IsHeld held
     → (1 ≤ held_times frame held.pool) × (block_at held.blocks frame ≡ block)
     → new.pool ≡ with_bytes frame bytes (with_dirty frame number held.pool) → new.blocks ≡ held.blocks
     → blocks_of new.pool new.blocks ≡ with_put number block bytes (blocks_of held.pool held.blocks)
@@ -169,27 +169,27 @@ blocks-write_again held new frame block number bytes is found p b =
     ∙ blocks_of-write_again held frame number bytes is found.0
     ∙ ap (λ (v : ℕ). with_put number v bytes (blocks_of held.pool held.blocks)) found.1
 
-pub blocks-put : (held left new : HeldState) (frame block number : ℕ) (bytes : List ℕ) → IsMissing block held → IsHeld left → 1 ≤ times frame left.pool.free
+pub blocks-put : (held left new : CachedState) (frame block number : ℕ) (bytes : List ℕ) → IsMissing block held → IsHeld left → 1 ≤ times frame left.pool.free
     → taken_leaves (blocks_of held.pool held.blocks) (blocks_of left.pool left.blocks)
     → new.pool ≡ with_bytes frame bytes (with_dirty frame number left.pool) → new.blocks ≡ set left.blocks frame block
     → blocks_of new.pool new.blocks ≡ with_put number block bytes (blocks_of held.pool held.blocks)
 blocks-put held left new frame block number bytes missing is free leaves p b =
     ap (λ (pool : PoolState). blocks_of pool new.blocks) p
     ∙ ap (λ (blocks : List ℕ). blocks_of (with_bytes frame bytes (with_dirty frame number left.pool)) blocks) b
-    ∙ blocks_of-hold_dirty left frame block number bytes is free
+    ∙ blocks_of-assign_dirty left frame block number bytes is free
     ∙ put_taken number block bytes (blocks_of held.pool held.blocks) (blocks_of left.pool left.blocks) (without_missing block held missing) leaves
 
-pub blocks-fill : (held left new : HeldState) (frame block : ℕ) (bytes : List ℕ) → IsMissing block held → IsHeld left → 1 ≤ times frame left.pool.free
+pub blocks-fill : (held left new : CachedState) (frame block : ℕ) (bytes : List ℕ) → IsMissing block held → IsHeld left → 1 ≤ times frame left.pool.free
     → taken_leaves (blocks_of held.pool held.blocks) (blocks_of left.pool left.blocks)
     → new.pool ≡ with_bytes frame bytes (with_clean frame left.pool) → new.blocks ≡ set left.blocks frame block
     → blocks_of new.pool new.blocks ≡ with_fill block bytes (blocks_of held.pool held.blocks)
 blocks-fill held left new frame block bytes missing is free leaves p b =
     ap (λ (pool : PoolState). blocks_of pool new.blocks) p
     ∙ ap (λ (blocks : List ℕ). blocks_of (with_bytes frame bytes (with_clean frame left.pool)) blocks) b
-    ∙ blocks_of-hold_clean left frame block bytes is free
-    ∙ fill_taken block bytes (blocks_of held.pool held.blocks) (blocks_of left.pool left.blocks) (is_held-missing block held missing) leaves
+    ∙ blocks_of-assign_clean left frame block bytes is free
+    ∙ fill_taken block bytes (blocks_of held.pool held.blocks) (blocks_of left.pool left.blocks) (is_cached-missing block held missing) leaves
 
-pub blocks-let_go : (held new : HeldState) (frame block : ℕ) → IsHeld held
+pub blocks-let_go : (held new : CachedState) (frame block : ℕ) → IsHeld held
     → (1 ≤ held_times frame held.pool) × (block_at held.blocks frame ≡ block)
     → new.pool ≡ with_free frame held.pool → new.blocks ≡ held.blocks
     → (blocks_of new.pool new.blocks ≡ without (λ b. b == block) (blocks_of held.pool held.blocks)) × IsMissing block new
@@ -206,16 +206,16 @@ blocks-let_go held new frame block is found p b = (
 )
 
 -- where no frame can be taken
-pub no_frame_now : (block : ℕ) (held : HeldState) → IsMissing block held → (held.pool.free ≡ []) × (held.pool.clean ≡ []) → HasNoFrame block (blocks_of held.pool held.blocks)
+pub no_frame_now : (block : ℕ) (held : CachedState) → IsMissing block held → (held.pool.free ≡ []) × (held.pool.clean ≡ []) → HasNoFrame block (blocks_of held.pool held.blocks)
 no_frame_now block held missing none =
-    (is_held-missing block held missing, ap length none.0, ap (λ (list : List ℕ). map (λ f. clean_block held.pool held.blocks f) list) none.1)
+    (is_cached-missing block held missing, ap length none.0, ap (λ (list : List ℕ). map (λ f. clean_block held.pool held.blocks f) list) none.1)
 
-pub none_left : (block : ℕ) (held : HeldState) → HasNoFrame block (blocks_of held.pool held.blocks) → (held.pool.free ≡ []) × (held.pool.clean ≡ [])
+pub none_left : (block : ℕ) (held : CachedState) → HasNoFrame block (blocks_of held.pool held.blocks) → (held.pool.free ≡ []) × (held.pool.clean ≡ [])
 none_left block held has = (
   nil_from_length held.pool.free has.1,
   nil_from_length held.pool.clean (sym (length-map held.pool.clean (λ f. clean_block held.pool held.blocks f)) ∙ ap length has.2),
 )
 
 -- A block that isn't dirty is counted.
-pub counted_missing : (block : ℕ) (held : HeldState) → IsMissing block held → count_missing block 1 (blocks_of held.pool held.blocks) ≡ 1
+pub counted_missing : (block : ℕ) (held : CachedState) → IsMissing block held → count_missing block 1 (blocks_of held.pool held.blocks) ≡ 1
 counted_missing block held missing = rw (is_dirty-missing block held missing) refl

@@ -9,8 +9,8 @@ use Rattle.frame_pool.specs.Pool.{DirtyFrame, PoolState, frames_of}
 use Rattle.frame_pool.specs.laws.Times.{times_head}
 use Rattle.shared_cache.specs.laws.Kept.{stands_once}
 pub use Rattle.shared_cache.specs.Blocks.{IsOnce, all_held, as_clean, times_in}
-use Rattle.shared_cache.specs.Blocks.{BlocksState, CleanBlock, DirtyBlock, bytes_of, clean_bytes, dirty_bytes, clean_outside, dirty_outside, is_clean, is_dirty, is_held, option_or, without}
-use Rattle.shared_cache.specs.Held.{HeldState, IsHeld, block_at, blocks_of, clean_block, dirty_block, held_times}
+use Rattle.shared_cache.specs.Blocks.{BlocksState, CleanBlock, DirtyBlock, bytes_of, clean_bytes, dirty_bytes, clean_outside, dirty_outside, is_clean, is_dirty, is_cached, option_or, without}
+use Rattle.shared_cache.specs.CachedBlocks.{CachedState, IsHeld, block_at, blocks_of, clean_block, dirty_block, held_times}
 
 pub times_in-append : (block : ℕ) (xs ys : List CleanBlock) → times_in block (xs ++ ys) ≡ times_in block xs + times_in block ys
 times_in-append block [] ys = omega arith
@@ -54,7 +54,7 @@ dirty_absent block (held ∷ dirty) none =
       | inr e ↦ rw e (omega (arith, dirty_absent block dirty (rw e at none)))
     ]
 
-pub absent_all : (block : ℕ) (blocks : BlocksState) → is_held block blocks ≡ false → times_in block (all_held blocks) ≡ 0
+pub absent_all : (block : ℕ) (blocks : BlocksState) → is_cached block blocks ≡ false → times_in block (all_held blocks) ≡ 0
 absent_all block blocks none =
     let both = neither (is_clean block blocks) (is_dirty block blocks) none in
     omega (arith, times_in-append block blocks.clean (map as_clean blocks.dirty), clean_absent block blocks.clean both.0, dirty_absent block blocks.dirty both.1)
@@ -80,7 +80,7 @@ dirty_none block (held ∷ dirty) none =
       | inr e ↦ let rest : times_in block (map as_clean dirty) ≡ 0 = omega (arith, none) in rw e (dirty_none block dirty rest)
     ]
 
-pub not_held : (block : ℕ) (blocks : BlocksState) → times_in block (all_held blocks) ≡ 0 → is_held block blocks ≡ false
+pub not_held : (block : ℕ) (blocks : BlocksState) → times_in block (all_held blocks) ≡ 0 → is_cached block blocks ≡ false
 not_held block blocks none =
     let whole = times_in-append block blocks.clean (map as_clean blocks.dirty) in
     let clean : is_clean block blocks ≡ false = clean_none block blocks.clean (omega (arith, whole, none)) in
@@ -223,7 +223,7 @@ dirty_frame pool blocks block (held ∷ dirty) some =
     ]
 
 -- the blocks that frames hold are each held once
-pub held_once : (held : HeldState) → IsHeld held → IsOnce (blocks_of held.pool held.blocks)
+pub held_once : (held : CachedState) → IsHeld held → IsOnce (blocks_of held.pool held.blocks)
 held_once held is = record {
   once = λ block.
       let clean = map (λ f. clean_block held.pool held.blocks f) held.pool.clean in
@@ -242,7 +242,7 @@ held_once held is = record {
       ];
 }
   where
-    by_frame : (held : HeldState) → IsHeld held → (frame block : ℕ) → 1 ≤ held_times frame held.pool → block_at held.blocks frame ≡ block
+    by_frame : (held : CachedState) → IsHeld held → (frame block : ℕ) → 1 ≤ held_times frame held.pool → block_at held.blocks frame ≡ block
         → times_in block (all_held (blocks_of held.pool held.blocks)) ≤ 1
     by_frame held is frame block some same =
         let clean = clean_times held.pool held.blocks frame held.pool.clean (λ other there e. is.apart other frame (omega (arith, there)) some e) in

@@ -6,7 +6,7 @@ use Rattle.std.proofs.lemmas.Bool.Decides.{eqb_tells}
 use Rattle.std.proofs.lemmas.List.{append-nil, append_assoc, get_or_default, take_more, length-take-le, length-drop}
 use Rattle.std.proofs.Math.Dec.{eqb, leb, ltb}
 use Rattle.image_model.specs.Image.{covers}
-use Rattle.shared_cache.specs.Blocks.{BlocksState, CleanBlock, DirtyBlock, at_hand, cleaned, clean_outside, dirty_outside, count_missing, is_dirty, with_put, with_puts, without}
+use Rattle.shared_cache.specs.Blocks.{BlocksState, CleanBlock, DirtyBlock, available_frames, cleaned, clean_outside, dirty_outside, count_missing, is_dirty, with_put, with_puts, without}
 use Rattle.std.specs.List.{All}
 use Rattle.std.specs.List.Sorted.{IsNonDecreasingBy}
 use Rattle.std.proofs.lemmas.List.Elements.{All-head, All-nil, All-tail}
@@ -14,7 +14,7 @@ use Rattle.frame_pool.specs.Lists.{times}
 use Rattle.frame_pool.specs.laws.Times.{times_head}
 use Rattle.shared_cache.specs.laws.Indexed.{frame_below}
 use Rattle.frame_pool.specs.Pool.{DirtyFrame, PoolState, frames_of, front_through, with_clean}
-use Rattle.shared_cache.specs.Held.{HeldState, IsHeld, block_at, blocks_of, clean_block, dirty_block, held_times}
+use Rattle.shared_cache.specs.CachedBlocks.{CachedState, IsHeld, block_at, blocks_of, clean_block, dirty_block, held_times}
 use Rattle.shared_cache.specs.inner.Blocks.{IsMissing}
 use Rattle.shared_cache.specs.laws.Kept.{blocks_of-clean_front, length-others}
 use Rattle.shared_cache.specs.laws.Lookups.{without_none}
@@ -97,7 +97,7 @@ outside_less block (h ∷ dirty) =
     ]
 
 -- a put takes at most the frame of one block that wasn't dirty
-pub at_hand_put : (number block : ℕ) (bytes : List ℕ) (s : BlocksState) → at_hand s ≤ at_hand (with_put number block bytes s) + (if is_dirty block s then 0 else 1)
+pub at_hand_put : (number block : ℕ) (bytes : List ℕ) (s : BlocksState) → available_frames s ≤ available_frames (with_put number block bytes s) + (if is_dirty block s then 0 else 1)
 at_hand_put number block bytes s =
     let rest = without (λ b. b == block) s in
     omega (arith, outside_less block s.dirty, outside_le (λ b. b == block) s.dirty, clean_le (λ b. b == block) s.clean, length-drop (1 - rest.free) rest.clean)
@@ -222,12 +222,12 @@ cleaned_step : (number free : ℕ) (clean : List CleanBlock) (first : DirtyBlock
 cleaned_step number free clean first rest le =
     rw (le-leb first.number number le, le-ltb number first.number le, append_assoc) refl
 
-pub clean_step : (held new : HeldState) (frame number : ℕ) → IsHeld held → front_through number held.pool.dirty ≡ Some frame
+pub clean_step : (held new : CachedState) (frame number : ℕ) → IsHeld held → front_through number held.pool.dirty ≡ Some frame
     → new.pool ≡ with_clean frame held.pool → new.blocks ≡ held.blocks
     → (cleaned number (blocks_of new.pool new.blocks) ≡ cleaned number (blocks_of held.pool held.blocks)) × (length new.pool.dirty < length held.pool.dirty)
 clean_step held new frame number is front p b = clean_split held new frame number is p b (front_split number frame held.pool.dirty front)
   where
-    clean_split : (held new : HeldState) (frame number : ℕ) → IsHeld held
+    clean_split : (held new : CachedState) (frame number : ℕ) → IsHeld held
         → new.pool ≡ with_clean frame held.pool → new.blocks ≡ held.blocks
         → (first : DirtyFrame) × (rest : List DirtyFrame) × (held.pool.dirty ≡ first ∷ rest) × (first.frame ≡ frame) × (first.number ≤ number)
         → (cleaned number (blocks_of new.pool new.blocks) ≡ cleaned number (blocks_of held.pool held.blocks)) × (length new.pool.dirty < length held.pool.dirty)
@@ -252,7 +252,7 @@ clean_step held new frame number is front p b = clean_split held new frame numbe
         )
 
 -- nothing is left to clean
-pub clean_done : (held : HeldState) (number : ℕ) → IsHeld held → front_through number held.pool.dirty ≡ None
+pub clean_done : (held : CachedState) (number : ℕ) → IsHeld held → front_through number held.pool.dirty ≡ None
     → blocks_of held.pool held.blocks ≡ cleaned number (blocks_of held.pool held.blocks)
 clean_done held number is none =
     let S = blocks_of held.pool held.blocks in
@@ -297,7 +297,7 @@ left_out first count block s inside =
         ]
 
 -- No frame holds a block of the range.
-pub none_covered : (first count : ℕ) (held : HeldState) → IsHeld held
+pub none_covered : (first count : ℕ) (held : CachedState) → IsHeld held
     → ((frame : ℕ) → frame < length held.pool.bytes → covers first count (block_at held.blocks frame) ≡ true → IsMissing (block_at held.blocks frame) held)
     → blocks_of held.pool held.blocks ≡ without (covers first count) (blocks_of held.pool held.blocks)
 none_covered first count held is gone =
@@ -305,7 +305,7 @@ none_covered first count held is gone =
     (clean_out first count held.pool held.blocks held.pool.clean (λ frame there. outside first count held is gone frame (omega (arith, there))))
     (dirty_out first count held.pool held.blocks held.pool.dirty (λ frame there. outside first count held is gone frame (omega (arith, there)))))
   where
-    outside : (first count : ℕ) (held : HeldState) → IsHeld held
+    outside : (first count : ℕ) (held : CachedState) → IsHeld held
         → ((frame : ℕ) → frame < length held.pool.bytes → covers first count (block_at held.blocks frame) ≡ true → IsMissing (block_at held.blocks frame) held)
         → (frame : ℕ) → 1 ≤ held_times frame held.pool → covers first count (block_at held.blocks frame) ≡ false
     outside first count held is gone frame some =
@@ -338,8 +338,8 @@ puts_step number first offset blocks d old s new below so_far put =
     ∙ ap (λ (list : List (List ℕ)). with_puts number first list old) (sym (take_more blocks offset d below))
 
 pub frames_step : (number first offset count : ℕ) (bytes : List ℕ) (s new : BlocksState) → new ≡ with_put number (first + offset) bytes s → offset < count
-    → count_missing (first + offset) (count - offset) s ≤ at_hand s
-    → count_missing (first + (offset + 1)) (count - (offset + 1)) new ≤ at_hand new
+    → count_missing (first + offset) (count - offset) s ≤ available_frames s
+    → count_missing (first + (offset + 1)) (count - (offset + 1)) new ≤ available_frames new
 frames_step number first offset count bytes s new put below room =
     let next = count_next first offset count s below in
     let same = count_put number (first + offset) (first + (offset + 1)) (count - (offset + 1)) bytes s (omega arith) in
@@ -350,7 +350,7 @@ pub covers_true : (first count block : ℕ) → first ≤ block → block < firs
 covers_true first count block above below = rw (le-leb first block above, lt-ltb block (first + count) below) refl
 
 -- the blocks that are gone, once a frame more was looked at
-pub gone_step : (old new : HeldState) (first count i block : ℕ) → new.blocks ≡ old.blocks
+pub gone_step : (old new : CachedState) (first count i block : ℕ) → new.blocks ≡ old.blocks
     → ((frame : ℕ) → 1 ≤ held_times frame new.pool → 1 ≤ held_times frame old.pool)
     → ((frame : ℕ) → frame < i → covers first count (block_at old.blocks frame) ≡ true → IsMissing (block_at old.blocks frame) old)
     → block ≡ block_at old.blocks i → (covers first count block ≡ true → IsMissing block new)
@@ -368,10 +368,10 @@ gone_step old new first count i block kept left gone is here frame below inside 
     ]
 
 -- the block of a frame as it was read
-pub block_read : (inside seen : HeldState) (frame read : ℕ) → inside ≡ seen → frame < length seen.blocks → read ≡ get_or inside.blocks frame read
+pub block_read : (inside seen : CachedState) (frame read : ℕ) → inside ≡ seen → frame < length seen.blocks → read ≡ get_or inside.blocks frame read
     → read ≡ block_at seen.blocks frame
 block_read inside seen frame read is below was =
-    was ∙ ap (λ (h : HeldState). get_or h.blocks frame read) is ∙ get_or_default seen.blocks frame read 0 below
+    was ∙ ap (λ (h : CachedState). get_or h.blocks frame read) is ∙ get_or_default seen.blocks frame read 0 below
 
-pub same_held : (old new : HeldState) → new.pool ≡ old.pool → new.blocks ≡ old.blocks → blocks_of new.pool new.blocks ≡ blocks_of old.pool old.blocks
+pub same_held : (old new : CachedState) → new.pool ≡ old.pool → new.blocks ≡ old.blocks → blocks_of new.pool new.blocks ≡ blocks_of old.pool old.blocks
 same_held old new p b = ap (λ (pool : PoolState). blocks_of pool new.blocks) p ∙ ap (λ (blocks : List ℕ). blocks_of old.pool blocks) b

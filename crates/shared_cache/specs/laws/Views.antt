@@ -11,9 +11,9 @@ use Rattle.image_model.specs.declared.command.Kind.TheVariants.{Data, Zero, Hole
 use Rattle.image_model.specs.Image.{covers}
 use Rattle.image_model.specs.Patched.{patched}
 use Rattle.image_model.specs.laws.Positions.{filled_at}
-use Rattle.shared_cache.specs.Blocks.{BlocksState, CleanBlock, DirtyBlock, bytes_of, clean_bytes, cleaned, dirty_outside, is_dirty, is_held, option_or, with_fill, with_put, with_puts, without}
+use Rattle.shared_cache.specs.Blocks.{BlocksState, CleanBlock, DirtyBlock, bytes_of, clean_bytes, cleaned, dirty_outside, is_dirty, is_cached, option_or, with_fill, with_put, with_puts, without}
 use Rattle.shared_cache.specs.Cache.{CacheState, bytes_for, bytes_seen}
-use Rattle.shared_cache.specs.Held.{HeldState, IsHeld, blocks_of}
+use Rattle.shared_cache.specs.CachedBlocks.{CachedState, IsHeld, blocks_of}
 use Rattle.shared_cache.specs.View.{KeepsBytes, ShowsPut, ShowsClear, ShowsFill, ShowsClean}
 use Rattle.shared_cache.specs.laws.Ranges.{any-outside, covers_true, dirty_other}
 use Rattle.shared_cache.specs.laws.Once.{IsOnce, absent_all, all_held, all_held-without, as_clean, bytes_of-all, clean_bytes-append, dirty_none, dropped, held_once, none_in, not_held, out_bytes, out_dirty, out_none, out_times, times_in, times_in-append}
@@ -232,12 +232,12 @@ puts_dirty number first (bytes ∷ blocks) s other =
         ]
 
 -- a block that was read
-fill_held : (block : ℕ) (bytes : List ℕ) (s : BlocksState) → is_held block s ≡ false
+fill_held : (block : ℕ) (bytes : List ℕ) (s : BlocksState) → is_cached block s ≡ false
     → all_held (with_fill block bytes s) ≡ drop (1 - s.free) s.clean ++ (record { block = block; bytes = bytes } ∷ map as_clean s.dirty)
 fill_held block bytes s missing =
     rw missing (append_assoc (drop (1 - s.free) s.clean) (record { block = block; bytes = bytes } ∷ []) (map as_clean s.dirty))
 
-pub fill_own : (block : ℕ) (bytes : List ℕ) (s : BlocksState) → is_held block s ≡ false → bytes_of block (with_fill block bytes s) ≡ Some bytes
+pub fill_own : (block : ℕ) (bytes : List ℕ) (s : BlocksState) → is_cached block s ≡ false → bytes_of block (with_fill block bytes s) ≡ Some bytes
 fill_own block bytes s missing =
     let none = absent_all block s missing in
     let taken = base_times block s (omega (arith, none)) in
@@ -247,7 +247,7 @@ fill_own block bytes s missing =
     ∙ clean_bytes-append block (drop (1 - s.free) s.clean) (record { block = block; bytes = bytes } ∷ map as_clean s.dirty)
     ∙ rw (none_in block (drop (1 - s.free) s.clean) (omega (arith, none, taken, whole)), eq-eqb block block refl) refl
 
-pub fill_other : (block : ℕ) (bytes : List ℕ) (s : BlocksState) → IsOnce s → is_held block s ≡ false → (other : ℕ) → other ≢ block → Keeps 1 s (with_fill block bytes s) other
+pub fill_other : (block : ℕ) (bytes : List ℕ) (s : BlocksState) → IsOnce s → is_cached block s ≡ false → (other : ℕ) → other ≢ block → Keeps 1 s (with_fill block bytes s) other
 fill_other block bytes s is missing other ne =
     let now : bytes_of other (with_fill block bytes s) ≡ clean_bytes other (base_of s) =
     bytes_of-all other (with_fill block bytes s)
@@ -342,11 +342,11 @@ zero_seen cache block Zero other is = ap (λ (kind : Kind). bytes_for kind (byte
 zero_seen cache block Hole other is = ap (λ (kind : Kind). bytes_for kind (bytes_of block cache.blocks)) is
 
 -- a block's bytes aren't in memory exactly where it is data and no frame holds it
-pub seen_missing : (cache : CacheState) (block : ℕ) → state_at cache.states block ≡ Data → is_held block cache.blocks ≡ false → bytes_seen cache block ≡ None
+pub seen_missing : (cache : CacheState) (block : ℕ) → state_at cache.states block ≡ Data → is_cached block cache.blocks ≡ false → bytes_seen cache block ≡ None
 seen_missing cache block is missing =
     data_seen cache block is ∙ bytes_of-all block cache.blocks ∙ none_in block (all_held cache.blocks) (absent_all block cache.blocks missing)
 
-pub missing_seen : (cache : CacheState) (block : ℕ) → bytes_seen cache block ≡ None → (state_at cache.states block ≡ Data) × (is_held block cache.blocks ≡ false)
+pub missing_seen : (cache : CacheState) (block : ℕ) → bytes_seen cache block ≡ None → (state_at cache.states block ≡ Data) × (is_cached block cache.blocks ≡ false)
 missing_seen cache block none =
     let both = no_bytes (state_at cache.states block) (bytes_of block cache.blocks) none in
     (both.0, not_held block cache.blocks (unseen block (all_held cache.blocks) (sym (bytes_of-all block cache.blocks) ∙ both.1)))
@@ -401,7 +401,7 @@ shows_clear first count kind old new other inside is =
       states = set;
       zero_bytes = λ block covered. zero_seen new block kind other (set block ∙ rw covered refl);
       no_frame = λ block covered.
-          ap (is_held block) held
+          ap (is_cached block) held
           ∙ not_held block (without (covers first count) old.blocks)
           (ap (times_in block) (all_held-without (covers first count) old.blocks) ∙ out_none (covers first count) block (all_held old.blocks) covered);
       others = λ block beyond.
@@ -414,7 +414,7 @@ pub shows_fill : (block : ℕ) (bytes : List ℕ) (old new : CacheState) → IsO
     → new ≡ record { states = old.states; blocks = with_fill block bytes old.blocks }
     → ShowsFill block bytes old new
 shows_fill block bytes old new once state is =
-    elim (cases_Bool (is_held block old.blocks)) [
+    elim (cases_Bool (is_cached block old.blocks)) [
       | inl held ↦ subst (λ (cache : CacheState). ShowsFill block bytes old cache) (sym (is ∙ hit held)) record {
         states = refl;
         filled = rw held refl;
@@ -436,7 +436,7 @@ shows_fill block bytes old new once state is =
           }
     ]
   where
-    hit : is_held block old.blocks ≡ true → (let now : CacheState = record { states = old.states; blocks = with_fill block bytes old.blocks } in now) ≡ old
+    hit : is_cached block old.blocks ≡ true → (let now : CacheState = record { states = old.states; blocks = with_fill block bytes old.blocks } in now) ≡ old
     hit held = ap (λ (s : BlocksState). let now : CacheState = record { states = old.states; blocks = s } in now) (rw held refl)
 
 pub shows_clean : (number : ℕ) (old new : CacheState) → IsOnce old.blocks → new ≡ record { states = old.states; blocks = cleaned number old.blocks } → ShowsClean number old new
@@ -452,5 +452,5 @@ shows_clean number old new once is =
     }
 
 -- the blocks that a cache shows are each held once
-pub once_seen : (held : HeldState) (blocks : BlocksState) → IsHeld held → blocks_of held.pool held.blocks ≡ blocks → IsOnce blocks
+pub once_seen : (held : CachedState) (blocks : BlocksState) → IsHeld held → blocks_of held.pool held.blocks ≡ blocks → IsOnce blocks
 once_seen held blocks is same = subst (λ (s : BlocksState). IsOnce s) same (held_once held is)

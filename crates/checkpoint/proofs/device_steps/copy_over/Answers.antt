@@ -1,7 +1,7 @@
 use Rattle.std.proofs.Common.{◌∙◌, ap, sym}
 use Rattle.std.proofs.lemmas.Result.{IfOk-from_err}
 use Rattle.disk_model.specs.Faults.{faults_after}
-use Rattle.checkpoint.proofs.Answered.{both_ways, failed_counted}
+use Rattle.checkpoint.proofs.ExcludedRefusals.{both_ways, failed_counted}
 use Rattle.checkpoint.proofs.device_steps.copy_over.Goals as goal
 
 pub returns-in_err-read-clause-copied : goal.returns-in_err-read-clause-copied

@@ -2,7 +2,7 @@ use Rattle.std.proofs.Common.{◌∙◌, ap, sym}
 use Rattle.disk_model.specs.laws.Moments.{stays_on}
 use Rattle.std.proofs.lemmas.Result.{IfOk-from_err}
 use Rattle.disk_model.specs.Faults.{faults_after}
-use Rattle.checkpoint.proofs.Answered.{both_ways, failed_counted}
+use Rattle.checkpoint.proofs.ExcludedRefusals.{both_ways, failed_counted}
 use Rattle.checkpoint.proofs.device_steps.empty_area.Goals as goal
 
 pub returns-clause-honest : goal.returns-clause-honest

@@ -1,6 +1,6 @@
 use Rattle.std.proofs.lemmas.Result.{on_ok_weaker, IfOk-from_err}
 use Rattle.disk_model.specs.laws.Moments.{stays_on}
-use Rattle.checkpoint.proofs.Answered.{both_ways}
+use Rattle.checkpoint.proofs.ExcludedRefusals.{both_ways}
 use Rattle.checkpoint.proofs.MapStored.{map_stored}
 use Rattle.checkpoint.proofs.device_steps.store_map.Goals as goal
 

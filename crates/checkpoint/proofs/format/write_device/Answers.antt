@@ -4,7 +4,7 @@ use Rattle.disk_model.specs.Disk.{State}
 use Rattle.disk_model.specs.Faults.{faults_after}
 use Rattle.disk_model.specs.laws.Moments.{goes_on, weakens}
 use Rattle.checkpoint.specs.inner.Format.{AreClosed}
-use Rattle.checkpoint.proofs.Answered.{failed_counted}
+use Rattle.checkpoint.proofs.ExcludedRefusals.{failed_counted}
 use Rattle.checkpoint.proofs.format.write_device.Goals as goal
 
 -- That the header is opened right after what was written for it is searched for.

@@ -8,7 +8,7 @@ use Rattle.image_model.specs.declared.side.Side.TheVariants.{Zero}
 use Rattle.image_model.specs.declared.geometry.Geometry.{Geometry}
 use Rattle.journal_format.specs.Area.{AreaState}
 use Rattle.regions.specs.Layout.{area_at, map_at}
-use Rattle.checkpoint.proofs.Answered.{failed_counted}
+use Rattle.checkpoint.proofs.ExcludedRefusals.{failed_counted}
 use Rattle.checkpoint.proofs.Formatted.{body_moments, gate_moments, map_moments, parts_written}
 use Rattle.checkpoint.proofs.format.write_parts.Goals as goal
 

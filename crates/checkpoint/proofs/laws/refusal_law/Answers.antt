@@ -1,4 +1,4 @@
-use Rattle.checkpoint.proofs.Refused.{never_refused}
+use Rattle.checkpoint.proofs.RefusedHasNoImage.{never_refused}
 use Rattle.checkpoint.proofs.laws.refusal_law.Goals as goal
 
 pub returns : goal.returns

@@ -3,13 +3,13 @@ use Rattle.image_model.specs.Geometry.{device_bytes_of}
 use Rattle.checkpoint.specs.inner.Recovery.{IsBegun}
 use Rattle.checkpoint.specs.Keeper.{AreSized}
 use Rattle.checkpoint.specs.declared.fault.KeeperFault.TheVariants.{DeviceFault}
-use Rattle.checkpoint.proofs.Answered.{err_same, ok_apart}
+use Rattle.checkpoint.proofs.ExcludedRefusals.{err_same, ok_apart}
 use Rattle.checkpoint.proofs.Areas.{placed_sized}
-use Rattle.checkpoint.proofs.Rotating.{counted_read, sized_read, uncopied_behind}
+use Rattle.checkpoint.proofs.HeaderChangeRemembers.{counted_read, sized_read, uncopied_behind}
 use Rattle.device_image.specs.Keeper.{PlanState, last_turned, phase_of, turned_of}
 use Rattle.device_image.specs.Stands.{last_area}
 use Rattle.device_image.specs.laws.Frame.{last_inside}
-use Rattle.checkpoint.proofs.Opened.{opened_image, opened_keeps, uncopied_begun}
+use Rattle.checkpoint.proofs.OpeningKeepsImage.{opened_image, opened_keeps, uncopied_begun}
 use Rattle.checkpoint.proofs.opening.load.Goals as goal
 
 pub returns-in-Ok-clause-found : goal.returns-in-Ok-clause-found

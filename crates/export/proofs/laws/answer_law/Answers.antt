@@ -1,5 +1,5 @@
 use Rattle.shared_store.specs.Orders.{Trusting}
-use Rattle.export.proofs.Stored.{flushed, forced}
+use Rattle.export.proofs.AnswersSurviveCrash.{flushed, forced}
 use Rattle.export.proofs.laws.answer_law.Goals as goal
 
 pub returns-clause-flushed : goal.returns-clause-flushed

@@ -1,5 +1,5 @@
-use Rattle.export_model.proofs.Edited.{edits_fit}
-use Rattle.export_model.proofs.Shown.{reads_fit}
+use Rattle.export_model.proofs.EditsBecomeCommands.{edits_fit}
+use Rattle.export_model.proofs.AnswersFitOrder.{reads_fit}
 use Rattle.export_model.proofs.Reached.{sound_reached, grows_run, reached_run}
 use Rattle.export_model.proofs.Truthful.{truth_reached}
 use Rattle.export_model.proofs.Waiting.{waiting_reached}

@@ -3,7 +3,7 @@ use Rattle.device_image.specs.Keeper.{KeeperState}
 use Rattle.shared_cache.specs.Cache.{CacheState}
 use Rattle.checkpoint.specs.declared.fault.KeeperFault.TheVariants as fault
 use Rattle.export_steps.proofs.Refusals.{hand_left, keeper_left}
-use Rattle.export_steps.proofs.Stored.{not_true_is}
+use Rattle.export_steps.proofs.StoringSteps.{not_true_is}
 use Rattle.export_steps.proofs.CheckpointSteps.{as_told, ok_unlike, finish_done, finish_refused}
 use Rattle.export_model.specs.Step.{finish}
 use Rattle.export_steps.proofs.checkpointing.finish.Goals as goal

@@ -7,9 +7,9 @@ use Rattle.export_steps.specs.Parts.{AreConnectionsOf, IsOrderOf}
 use Rattle.export_steps.specs.inner.Serving.{AreTermsOf}
 use Rattle.export_steps.proofs.Talks.{talked_answer, talked_send}
 use Rattle.export_steps.proofs.Performed.{disk_cleans, disk_publishes, disk_seals, of_step, performed_any, performed_appended, performed_kept, performed_talked}
-use Rattle.export_steps.proofs.Steady.{shows_after, shows_still, steady_answer, steady_append, steady_clean, steady_copy, steady_finish, steady_map, steady_publish, steady_rotate, steady_seal, steady_send}
+use Rattle.export_steps.proofs.StepsKeepCommands.{shows_after, shows_still, steady_answer, steady_append, steady_clean, steady_copy, steady_finish, steady_map, steady_publish, steady_rotate, steady_seal, steady_send}
 use Rattle.device_image.specs.Keeper.{KeeperState}
-use Rattle.export_steps.proofs.Stored.{kept_clean_by, kept_publish_by, kept_seal_by}
+use Rattle.export_steps.proofs.StoringSteps.{kept_clean_by, kept_publish_by, kept_seal_by}
 use Rattle.export_model.specs.Serve.{Nothing, answer, serve}
 use Rattle.export_model.specs.Step.{append, clean, copy_block, finish, publish, rotate, seal, send, write_map}
 use Rattle.export_model.specs.declared.step.Step.TheVariants as steps

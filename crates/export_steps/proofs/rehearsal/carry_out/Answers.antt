@@ -5,7 +5,7 @@ use Rattle.export_steps.specs.Bench.{BenchState, ConnectionsState}
 use Rattle.export_steps.specs.Life.{Trusts}
 use Rattle.export_steps.specs.Parts.{IsExportOf}
 use Rattle.export_model.specs.declared.event.Event.{Event}
-use Rattle.export_model.specs.declared.event.Event.TheVariants.{Held}
+use Rattle.export_model.specs.declared.event.Event.TheVariants.{Skipped}
 use Rattle.export_steps.proofs.rehearsal.carry_out.Goals as goal
 
 pub returns-clause-world : goal.returns-clause-world
@@ -19,6 +19,6 @@ returns-clause-world g c = λ world trusted of.
     let taken = c.take_step-event.ensures.world world trusted here in
     let log_is : set c.push.new.self.items c.len-place.result event ≡ world.log ++ event ∷ [] =
     ap (λ (l : List Event). set l c.len-place.result event) c.in_ok-push.ensures.items
-    ∙ (set_at inside.log.items Held [] event c.len-place.result (sym (c.len-place.ensures ∙ inside.log.ok.0))
+    ∙ (set_at inside.log.items Skipped [] event c.len-place.result (sym (c.len-place.ensures ∙ inside.log.ok.0))
     ∙ ap (λ (l : List Event). l ++ event ∷ []) (ap (λ (b : BenchState). b.log) view ∙ of.log)) in
     (taken.0, event, log_is ∙ sym taken.1.log, taken.1)

@@ -6,7 +6,7 @@ use Rattle.journal_format.specs.Group.{Numbered}
 use Rattle.nbd_wire.specs.Request.{Message}
 use Rattle.nbd_wire.specs.declared.error.Errno.{Errno}
 use Rattle.order_book.specs.Order.{IsInHand, OrderState}
-use Rattle.export_steps.proofs.Asked.{now_stopped}
+use Rattle.export_steps.proofs.DeviceReads.{now_stopped}
 use Rattle.export_steps.proofs.requests.serve_or_stop.Goals as goal
 use Rattle.image_model.specs.Image.{Image}
 use Rattle.order_book.specs.Shown.{ShowsImage}
@@ -73,12 +73,12 @@ returns-else-works-clause-hand g c =
     served_in_hand g.D.Disk.state g.D.Disk.faults g.D.Disk.honest c.args.request c.args.terms.geometry c.args.terms.mode c.args.order.now c.serve_with_keeper-served.new.order
     c.args.keeper.now c.serve_with_keeper-served.new.keeper c.serve_with_keeper-served.result c.args.hand.now c.requires.hand given by
 
-pub returns-then-stopped-clause-serves : goal.returns-then-stopped-clause-serves
-returns-then-stopped-clause-serves g c =
+pub returns-then-is_stopped-clause-serves : goal.returns-then-is_stopped-clause-serves
+returns-then-is_stopped-clause-serves g c =
     let (given, given_is, by) = c.serve_with_keeper-served.ensures.serves in
     let middle = c.serve_with_keeper-served.new.order in
     let works : c.args.order.now.stopped ≡ false = sym c.if-works.ensures in
-    let stopped : middle.stopped ≡ true = sym c.if-stopped.ensures in
+    let stopped : middle.stopped ≡ true = sym c.if-is_stopped.ensures in
     let unread = now_stopped g.D.Disk.state g.D.Disk.faults g.D.Disk.honest c.args.request c.args.terms.geometry c.args.terms.mode c.args.order.now middle c.args.keeper.now c.serve_with_keeper-served.new.keeper
     c.serve_with_keeper-served.result works stopped given by in
     (given, given_is, inr (unread.0, works, c.stop.ensures.hand, middle, unread.1, c.stop.ensures.order))

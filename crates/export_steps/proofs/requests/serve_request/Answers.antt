@@ -5,7 +5,7 @@ use Rattle.nbd_wire.specs.declared.message.SessionFlags.{SessionFlags}
 use Rattle.export_steps.specs.inner.Outcomes.{IsServedWith}
 use Rattle.export_steps.specs.inner.Serving.{event_for, state_of}
 use Rattle.export_steps.specs.inner.Steps.{IsAnyServed}
-use Rattle.export_steps.proofs.Asked.{any_served, verdict_ends}
+use Rattle.export_steps.proofs.DeviceReads.{any_served, verdict_ends}
 use Rattle.export_steps.proofs.Serves.{served_moved}
 use Rattle.export_steps.proofs.requests.serve_request.Goals as goal
 use Rattle.export_model.specs.Serve.{Failure, Nothing, judged}

@@ -7,12 +7,12 @@ use Rattle.regions.specs.Layout.{area_size}
 use Rattle.export_steps.specs.inner.Steps.{IsAppended}
 use Rattle.export_steps.specs.Parts.{IsOrderOf}
 use Rattle.export_steps.specs.inner.Storing.{event_of, hand_after, order_after}
-use Rattle.export_steps.proofs.Appended.{appended, appended_none, appended_refused}
-use Rattle.export_steps.proofs.Stored.{not_true_is}
+use Rattle.export_steps.proofs.AppendStep.{appended, appended_none, appended_refused}
+use Rattle.export_steps.proofs.StoringSteps.{not_true_is}
 use Rattle.export_model.specs.Serve.{Nothing}
 use Rattle.export_model.specs.Step.{append}
 use Rattle.export_model.specs.declared.event.Event.{Event}
-use Rattle.export_model.specs.declared.event.Event.TheVariants.{Took, Held}
+use Rattle.export_model.specs.declared.event.Event.TheVariants.{Took, Skipped}
 use Rattle.export_steps.proofs.storing.append.Goals as goal
 
 none_is : {X : Type 0} (o : Option X) → ((x : X) → o ≡ Some x → ⊥) → o ≡ None
@@ -25,7 +25,7 @@ returns-in_default-clause-world g c = λ world within of kept.
     let old = c.args.keeper.now in
     let empty : c.args.hand.now ≡ None = none_is c.args.hand.now (λ group is. c.in_default.not-Some group (c.take.ensures.value ∙ is)) in (
       Nothing,
-      subst (λ (hand : Option Numbered). IsAppended world (append Nothing world) Held order hand old old (g.D.Disk.faults old.disk) (g.D.Disk.honest old.disk) (g.D.Disk.state old.disk) (g.D.Disk.state old.disk))
+      subst (λ (hand : Option Numbered). IsAppended world (append Nothing world) Skipped order hand old old (g.D.Disk.faults old.disk) (g.D.Disk.honest old.disk) (g.D.Disk.state old.disk) (g.D.Disk.state old.disk))
           (sym c.take.ensures.after)
           (appended_none g.D.Disk.state g.D.Disk.faults g.D.Disk.extent g.D.Disk.honest g.met.D.Disk.sound world order old
           (subst (λ (hand : Option Numbered). IsOrderOf world.stage order hand) empty of) kept),

@@ -7,12 +7,12 @@ use Rattle.image_model.specs.declared.command.Kind.{Kind}
 use Rattle.image_model.specs.Change.{Change, Written, Cleared, Edged, IsChange, edge_count, least_blocks}
 use Rattle.image_model.specs.declared.command.Edges.{Edges}
 use Rattle.image_model.specs.Dirty.{dirty_after}
-use Rattle.shared_cache.specs.Blocks.{BlocksState, DirtyBlock, IsOnce, at_hand, count_missing, edges_missing}
+use Rattle.shared_cache.specs.Blocks.{BlocksState, DirtyBlock, IsOnce, available_frames, count_missing, edges_missing}
 use Rattle.shared_cache.specs.Cache.{CacheState, with_edges, with_written}
 use Rattle.shared_cache.specs.View.{ShowsEdges, ShowsPut}
 use Rattle.order_book.specs.Cached.{ShowsCommand, blocks_in, cache_after, dirty_of, frames_of, head_count}
 use Rattle.order_book.proofs.Frames.{frames-after, frames_enough, length-chunks, length-head, length-tail, map-after, missing_of, order-after, states-after}
-use Rattle.order_book.proofs.Shown.{shows_cleared, shows_command, shows_edged, shows_written}
+use Rattle.order_book.proofs.CacheShowsImage.{shows_cleared, shows_command, shows_edged, shows_written}
 use Rattle.order_book.proofs.commands.apply.Goals as goal
 
 -- what holds where memory is there, and of what there is else
@@ -45,24 +45,24 @@ module _ (old new : CacheState) (number : ℕ) (change : Change) (is : IsChange 
   states_now : length new.states ≡ length old.states
   states_now = ap (λ (cache : CacheState). length cache.states) after ∙ states-after old number change is
 
-  frames_now : missing_of change old.blocks ≤ at_hand old.blocks → frames_of new ≡ frames_of old
+  frames_now : missing_of change old.blocks ≤ available_frames old.blocks → frames_of new ≡ frames_of old
   frames_now room = ap frames_of after ∙ frames-after (length old.states) old number change is room
 
   order_now : All (λ (held : DirtyBlock). held.number ≤ number) old.blocks.dirty → All (λ (held : DirtyBlock). held.number ≤ number) new.blocks.dirty
   order_now below = subst (λ (cache : CacheState). All (λ (held : DirtyBlock). held.number ≤ number) cache.blocks.dirty) (sym after) (order-after old number change below)
 
 -- a write
-put_blocks : (c : goal.After-for_memory) → c.as_chunks.result.0.now ≡ blocks_in c.in-Put.bytes.items
+put_blocks : (c : goal.After-as_alloc_result) → c.as_chunks.result.0.now ≡ blocks_in c.in-Put.bytes.items
 put_blocks c =
     let inside = rw c.in-Put.is at c.requires.inside in
     c.as_chunks.ensures.front ∙ filled_blocks inside.0 c.in-Put.bytes.items c.deref.result.now c.deref.ensures.value inside.1
 
-put_after : (c : goal.After-for_memory) → c.put.new.self ≡ with_written c.args.number c.in-Put.first c.as_chunks.result.0.now c.args.cache.now
+put_after : (c : goal.After-as_alloc_result) → c.put.new.self ≡ with_written c.args.number c.in-Put.first c.as_chunks.result.0.now c.args.cache.now
     → c.put.new.self ≡ cache_after c.args.cache.now c.args.number (Written c.in-Put.first c.in-Put.bytes.items)
 put_after c after = after ∙ ap (λ (blocks : List (List ℕ)). with_written c.args.number c.in-Put.first blocks c.args.cache.now) (put_blocks c)
 
-pub for_memory-requires : goal.for_memory-requires
-for_memory-requires c refused =
+pub as_alloc_result-requires : goal.as_alloc_result-requires
+as_alloc_result-requires c refused =
     let inside = rw c.in-Put.is at c.requires.inside in
     let frames = rw c.in-Put.is at c.requires.frames in
     let few = c.put.ensures.no_frame.0 refused in
@@ -76,13 +76,13 @@ for_memory-requires c refused =
 
 pub returns-in-Put-clause-view : goal.returns-in-Put-clause-view
 returns-in-Put-clause-view c =
-    rw c.in-Put.is (from_ok _ c.put.result (ShowsPut c.in-Put.first c.as_chunks.result.0.now c.args.cache.now c.put.new.self) _ c.for_memory.ensures c.put.ensures.view (λ shows.
+    rw c.in-Put.is (from_ok _ c.put.result (ShowsPut c.in-Put.first c.as_chunks.result.0.now c.args.cache.now c.put.new.self) _ c.as_alloc_result.ensures c.put.ensures.view (λ shows.
     shows_written c.in-Put.first c.in-Put.bytes.items c.args.cache.now c.put.new.self
     (subst (λ (blocks : List (List ℕ)). ShowsPut c.in-Put.first blocks c.args.cache.now c.put.new.self) (put_blocks c) shows)))
 
 pub returns-in-Put-clause-image : goal.returns-in-Put-clause-image
 returns-in-Put-clause-image c =
-    rw c.in-Put.is (from_ok _ c.put.result (ShowsPut c.in-Put.first c.as_chunks.result.0.now c.args.cache.now c.put.new.self) _ c.for_memory.ensures c.put.ensures.view (λ shows image known.
+    rw c.in-Put.is (from_ok _ c.put.result (ShowsPut c.in-Put.first c.as_chunks.result.0.now c.args.cache.now c.put.new.self) _ c.as_alloc_result.ensures c.put.ensures.view (λ shows image known.
     shows_command image (Written c.in-Put.first c.in-Put.bytes.items) c.args.cache.now c.put.new.self known
     (shows_written c.in-Put.first c.in-Put.bytes.items c.args.cache.now c.put.new.self
     (subst (λ (blocks : List (List ℕ)). ShowsPut c.in-Put.first blocks c.args.cache.now c.put.new.self) (put_blocks c) shows))))
@@ -90,13 +90,13 @@ returns-in-Put-clause-image c =
 pub returns-in-Put-clause-dirty : goal.returns-in-Put-clause-dirty
 returns-in-Put-clause-dirty c =
     let inside = rw c.in-Put.is at c.requires.inside in
-    rw c.in-Put.is (from_ok _ c.put.result (c.put.new.self ≡ with_written c.args.number c.in-Put.first c.as_chunks.result.0.now c.args.cache.now) _ c.for_memory.ensures c.put.ensures.ok (λ after.
+    rw c.in-Put.is (from_ok _ c.put.result (c.put.new.self ≡ with_written c.args.number c.in-Put.first c.as_chunks.result.0.now c.args.cache.now) _ c.as_alloc_result.ensures c.put.ensures.ok (λ after.
     dirty_now c.args.cache.now c.put.new.self c.args.number (Written c.in-Put.first c.in-Put.bytes.items) inside (put_after c after)))
 
 pub returns-in-Put-clause-order : goal.returns-in-Put-clause-order
 returns-in-Put-clause-order c =
     let inside = rw c.in-Put.is at c.requires.inside in
-    from_ok _ c.put.result (c.put.new.self ≡ with_written c.args.number c.in-Put.first c.as_chunks.result.0.now c.args.cache.now) _ c.for_memory.ensures c.put.ensures.ok (λ after.
+    from_ok _ c.put.result (c.put.new.self ≡ with_written c.args.number c.in-Put.first c.as_chunks.result.0.now c.args.cache.now) _ c.as_alloc_result.ensures c.put.ensures.ok (λ after.
     order_now c.args.cache.now c.put.new.self c.args.number (Written c.in-Put.first c.in-Put.bytes.items) inside (put_after c after) c.requires.order)
 
 pub returns-in-Put-clause-kept : goal.returns-in-Put-clause-kept
@@ -155,8 +155,8 @@ missing_same first blocks kind edges items head tail s least whole at_head at_ta
     let in_tail = ap length at_tail ∙ length-tail first blocks kind edges items least whole in
     λ i. edges_missing first blocks (in_head i) (in_tail i) s
 
-pub for_memory-requires-in-Edged : goal.for_memory-requires-in-Edged
-for_memory-requires-in-Edged c refused =
+pub as_alloc_result-requires-in-Edged : goal.as_alloc_result-requires-in-Edged
+as_alloc_result-requires-in-Edged c refused =
     let inside = rw c.in-Edged.is at c.requires.inside in
     let frames = rw c.in-Edged.is at c.requires.frames in
     let given = edges_given c.in-Edged.edges c.in-Edged.bytes.items c.deref-in-Edged.result.now _ _ c.deref-in-Edged.ensures.value c.as_chunks-in-Edged.ensures.front inside.4
@@ -168,28 +168,28 @@ for_memory-requires-in-Edged c refused =
     let held = frames_enough _ c.args.cache.now c.args.number (Edged c.in-Edged.first c.in-Edged.blocks c.in-Edged.kind c.in-Edged.edges c.in-Edged.bytes.items) inside once frames in
     omega (arith, few, all, held)
 
-abbrev edged : goal.After-for_memory-in-Edged → Change
+abbrev edged : goal.After-as_alloc_result-in-Edged → Change
 edged c = Edged c.in-Edged.first c.in-Edged.blocks c.in-Edged.kind c.in-Edged.edges c.in-Edged.bytes.items
 
-edged_inside : (c : goal.After-for_memory-in-Edged) → IsChange (length c.args.cache.now.states) (edged c)
+edged_inside : (c : goal.After-as_alloc_result-in-Edged) → IsChange (length c.args.cache.now.states) (edged c)
 edged_inside c = rw c.in-Edged.is at c.requires.inside
 
-edged_given : (c : goal.After-for_memory-in-Edged) → (c.split_at.result.0.now ≡ take (head_count c.in-Edged.edges) (blocks_in c.in-Edged.bytes.items))
+edged_given : (c : goal.After-as_alloc_result-in-Edged) → (c.split_at.result.0.now ≡ take (head_count c.in-Edged.edges) (blocks_in c.in-Edged.bytes.items))
     × (c.split_at.result.1.now ≡ drop (head_count c.in-Edged.edges) (blocks_in c.in-Edged.bytes.items))
 edged_given c =
     edges_given c.in-Edged.edges c.in-Edged.bytes.items c.deref-in-Edged.result.now _ _ c.deref-in-Edged.ensures.value c.as_chunks-in-Edged.ensures.front (edged_inside c).4
     c.head_blocks.ensures _ _ c.split_at.ensures.front c.split_at.ensures.back
 
-abbrev EdgedAfter : goal.After-for_memory-in-Edged → Type 0
+abbrev EdgedAfter : goal.After-as_alloc_result-in-Edged → Type 0
 EdgedAfter c =
     c.clear_between.new.self ≡ with_edges c.args.number c.in-Edged.first c.in-Edged.blocks c.in-Edged.kind c.split_at.result.0.now c.split_at.result.1.now c.args.cache.now
 
-edged_after : (c : goal.After-for_memory-in-Edged) → EdgedAfter c → c.clear_between.new.self ≡ cache_after c.args.cache.now c.args.number (edged c)
+edged_after : (c : goal.After-as_alloc_result-in-Edged) → EdgedAfter c → c.clear_between.new.self ≡ cache_after c.args.cache.now c.args.number (edged c)
 edged_after c after =
     let given = edged_given c in
     after ∙ (λ i. with_edges c.args.number c.in-Edged.first c.in-Edged.blocks c.in-Edged.kind (given.0 i) (given.1 i) c.args.cache.now)
 
-edged_shown : (c : goal.After-for_memory-in-Edged)
+edged_shown : (c : goal.After-as_alloc_result-in-Edged)
     → ShowsEdges c.in-Edged.first c.in-Edged.blocks c.in-Edged.kind c.split_at.result.0.now c.split_at.result.1.now c.args.cache.now c.clear_between.new.self
     → ShowsCommand (edged c) c.args.cache.now c.clear_between.new.self
 edged_shown c shows =
@@ -203,25 +203,25 @@ edged_shown c shows =
 
 pub returns-in-Edged-clause-after : goal.returns-in-Edged-clause-after
 returns-in-Edged-clause-after c =
-    rw c.in-Edged.is (from_ok _ c.clear_between.result (EdgedAfter c) _ c.for_memory-in-Edged.ensures c.clear_between.ensures.ok (λ after. edged_after c after))
+    rw c.in-Edged.is (from_ok _ c.clear_between.result (EdgedAfter c) _ c.as_alloc_result-in-Edged.ensures c.clear_between.ensures.ok (λ after. edged_after c after))
 
 pub returns-in-Edged-clause-view : goal.returns-in-Edged-clause-view
 returns-in-Edged-clause-view c =
-    rw c.in-Edged.is (from_ok _ c.clear_between.result _ _ c.for_memory-in-Edged.ensures c.clear_between.ensures.view (λ shows. edged_shown c shows))
+    rw c.in-Edged.is (from_ok _ c.clear_between.result _ _ c.as_alloc_result-in-Edged.ensures c.clear_between.ensures.view (λ shows. edged_shown c shows))
 
 pub returns-in-Edged-clause-image : goal.returns-in-Edged-clause-image
 returns-in-Edged-clause-image c =
-    rw c.in-Edged.is (from_ok _ c.clear_between.result _ _ c.for_memory-in-Edged.ensures c.clear_between.ensures.view (λ shows image known.
+    rw c.in-Edged.is (from_ok _ c.clear_between.result _ _ c.as_alloc_result-in-Edged.ensures c.clear_between.ensures.view (λ shows image known.
     shows_command image (edged c) c.args.cache.now c.clear_between.new.self known (edged_shown c shows)))
 
 pub returns-in-Edged-clause-dirty : goal.returns-in-Edged-clause-dirty
 returns-in-Edged-clause-dirty c =
-    rw c.in-Edged.is (from_ok _ c.clear_between.result (EdgedAfter c) _ c.for_memory-in-Edged.ensures c.clear_between.ensures.ok (λ after.
+    rw c.in-Edged.is (from_ok _ c.clear_between.result (EdgedAfter c) _ c.as_alloc_result-in-Edged.ensures c.clear_between.ensures.ok (λ after.
     dirty_now c.args.cache.now c.clear_between.new.self c.args.number (edged c) (edged_inside c) (edged_after c after)))
 
 pub returns-in-Edged-clause-order : goal.returns-in-Edged-clause-order
 returns-in-Edged-clause-order c =
-    from_ok _ c.clear_between.result (EdgedAfter c) _ c.for_memory-in-Edged.ensures c.clear_between.ensures.ok (λ after.
+    from_ok _ c.clear_between.result (EdgedAfter c) _ c.as_alloc_result-in-Edged.ensures c.clear_between.ensures.ok (λ after.
     order_now c.args.cache.now c.clear_between.new.self c.args.number (edged c) (edged_inside c) (edged_after c after) c.requires.order)
 
 pub returns-in-Edged-clause-blocks : goal.returns-in-Edged-clause-blocks

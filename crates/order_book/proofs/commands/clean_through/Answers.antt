@@ -5,7 +5,7 @@ use Rattle.std.proofs.lemmas.Bool.Decides.{nat_tests}
 use Rattle.shared_cache.specs.Cache.{CacheState}
 use Rattle.order_book.specs.Cached.{cache_cleaned, dirty_of, frames_of}
 use Rattle.order_book.proofs.Frames.{frames-cleaned, len-dirty, map-cleaned, none_cleaned}
-use Rattle.order_book.proofs.Shown.{shows_clean}
+use Rattle.order_book.proofs.CacheShowsImage.{shows_clean}
 use Rattle.order_book.proofs.commands.clean_through.Goals as goal
 
 not_less : (a b : ℕ) → nat_lt a b ≡ false → b ≤ a

@@ -1,8 +1,8 @@
 use Rattle.std.proofs.Common.{◌∙◌, ap, arith}
 use Rattle.image_model.specs.Edit.{blocks_met}
 use Rattle.order_book.specs.Edits.{image_in}
-use Rattle.order_book.proofs.Small.{two_edges}
-use Rattle.order_book.proofs.Taking.{edges_body, no_edges_body, put_body}
+use Rattle.order_book.proofs.CommandsFitGroup.{two_edges}
+use Rattle.order_book.proofs.EditBecomesCommand.{edges_body, no_edges_body, put_body}
 use Rattle.order_book.proofs.edits.body_for.Goals as goal
 
 pub returns-in-Put-clause-body : goal.returns-in-Put-clause-body

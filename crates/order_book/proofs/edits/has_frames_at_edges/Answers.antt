@@ -1,7 +1,7 @@
 use Rattle.std.proofs.Common.{◌-◌}
 use Rattle.order_book.specs.Cached.{dirty_of, frames_of}
 use Rattle.order_book.specs.Edits.{image_in}
-use Rattle.order_book.proofs.Taking.{edges_found, no_edges_frames}
+use Rattle.order_book.proofs.EditBecomesCommand.{edges_found, no_edges_frames}
 use Rattle.order_book.proofs.edits.has_frames_at_edges.Goals as goal
 
 pub returns-in_default : goal.returns-in_default

@@ -1,6 +1,6 @@
 use Rattle.std.proofs.Common.{◌∙◌, ap, length}
 use Rattle.image_model.specs.Edit.{BytesPut, BytesZeroed, IsEdit, blocks_met}
-use Rattle.order_book.proofs.Taking.{put_found}
+use Rattle.order_book.proofs.EditBecomesCommand.{put_found}
 use Rattle.order_book.proofs.edits.has_frames_for.Goals as goal
 
 pub returns-in-Put : goal.returns-in-Put

@@ -2,7 +2,7 @@ use Rattle.std.proofs.Common.{◌∙◌, ◌+◌, ◌-◌, ◌/◌, ap, nat_eq, 
 use Rattle.image_model.specs.Change.{Written}
 use Rattle.order_book.specs.Edits.{bytes_or}
 use Rattle.shared_cache.specs.Cache.{bytes_seen}
-use Rattle.order_book.proofs.Taking.{put_made}
+use Rattle.order_book.proofs.EditBecomesCommand.{put_made}
 use Rattle.order_book.proofs.edits.put.Goals as goal
 
 pub returns : goal.returns

@@ -9,8 +9,8 @@ use Rattle.image_model.specs.Edit.{edit_of}
 use Rattle.journal_format.specs.laws.Chained.{reads_on}
 use Rattle.order_book.specs.Edits.{IsMissing}
 use Rattle.order_book.proofs.Editing.{ends_missing}
-use Rattle.order_book.proofs.Handed.{err_with, failed_on, not_failed, ok_is_none, on_ok, works_on}
-use Rattle.order_book.proofs.Taking.{map_ok, read_ends, refused_on}
+use Rattle.order_book.proofs.KeeperRefusalHandedOn.{err_with, failed_on, not_failed, ok_is_none, on_ok, works_on}
+use Rattle.order_book.proofs.EditBecomesCommand.{map_ok, read_ends, refused_on}
 use Rattle.order_book.proofs.edits.read_old.Goals as goal
 
 pub returns-then-last-first : goal.returns-then-last-first

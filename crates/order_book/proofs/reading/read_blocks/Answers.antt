@@ -7,7 +7,7 @@ use Rattle.checkpoint.specs.Keeper.{faults_by}
 use Rattle.checkpoint.specs.declared.fault.KeeperFault.TheVariants.{DeviceFault, Failed}
 use Rattle.journal_format.specs.laws.Chained.{none_read, reads_on}
 use Rattle.shared_cache.specs.laws.Views.{seen_missing}
-use Rattle.order_book.proofs.Handed.{err_with, failed_on, is_not, not_failed, ok_is_none, on_err, on_ok}
+use Rattle.order_book.proofs.KeeperRefusalHandedOn.{err_with, failed_on, is_not, not_failed, ok_is_none, on_err, on_ok}
 use Rattle.order_book.proofs.Missing.{lacks_at}
 use Rattle.order_book.proofs.reading.read_blocks.Goals as goal
 
@@ -16,7 +16,7 @@ none_and_some seen bytes none some = cc
 
 pub loop-done-init : goal.loop-done-init
 loop-done-init g c =
-    let held = c.read_held-held.ensures in
+    let held = c.read_in_memory-held.ensures in
     record {
       size = held.size;
       inside = held.inside;
@@ -36,17 +36,17 @@ pub returns : goal.returns
 returns g c =
     let so_far = c.loop-done.invariant in record {
       size = so_far.size;
-      inside = let held = c.read_held-held.ensures in omega (arith, held.inside, held.size, so_far.size);
-      there = λ j below. c.read_held-held.ensures.there j (omega arith) below;
-      missing = λ less. c.read_held-held.ensures.missing (omega (arith, less, so_far.size, c.read_held-held.ensures.size));
+      inside = let held = c.read_in_memory-held.ensures in omega (arith, held.inside, held.size, so_far.size);
+      there = λ j below. c.read_in_memory-held.ensures.there j (omega arith) below;
+      missing = λ less. c.read_in_memory-held.ensures.missing (omega (arith, less, so_far.size, c.read_in_memory-held.ensures.size));
       all_held =
           λ all.
-          let held = c.read_held-held.result in
+          let held = c.read_in_memory-held.result in
           let size = so_far.size in
           let whole : 4096 * held ≡ length c.args.into.now = elim (cases_lt (4096 * held) (length c.args.into.now)) [
             | inl less ↦ absurd (all (lacks_at c.args.cache.now c.args.first (length c.args.into.now / 4096) held (omega (arith, less, c.requires.whole))
-                (c.read_held-held.ensures.missing (omega (arith, less, c.read_held-held.ensures.size)))))
-            | inr more ↦ omega (arith, more, c.read_held-held.ensures.size, c.read_held-held.ensures.inside)
+                (c.read_in_memory-held.ensures.missing (omega (arith, less, c.read_in_memory-held.ensures.size)))))
+            | inr more ↦ omega (arith, more, c.read_in_memory-held.ensures.size, c.read_in_memory-held.ensures.inside)
           ] in (
             omega (arith, whole, size),
             elim so_far.begun [ inl same ↦ same.1 | inr behind ↦ let far = behind.0 in absurd (omega (arith, far, whole, size, so_far.inside)) ],
@@ -59,8 +59,8 @@ returns g c =
           | inl same ↦
               let at = same.0 in
               let lacks = both.1 in
-              let below : lacks.0 < c.read_held-held.result = omega (arith, lacks.1, at, c.loop-done-test.false, c.read_held-held.ensures.size) in
-              c.read_held-held.ensures.there lacks.0 (omega arith) below (seen_missing c.args.cache.now (c.args.first + lacks.0) lacks.2 lacks.3)
+              let below : lacks.0 < c.read_in_memory-held.result = omega (arith, lacks.1, at, c.loop-done-test.false, c.read_in_memory-held.ensures.size) in
+              c.read_in_memory-held.ensures.there lacks.0 (omega arith) below (seen_missing c.args.cache.now (c.args.first + lacks.0) lacks.2 lacks.3)
           | inr behind ↦ not_failed _ both.0 behind.1
         ]),
       );
@@ -99,10 +99,10 @@ pub loop-done-preserved : goal.loop-done-preserved
 loop-done-preserved g c =
     let old = c.loop-done.invariant in
     let run = c.in_ok-read_run.ensures in
-    let held = c.read_held-done.ensures in
+    let held = c.read_in_memory-done.ensures in
     let into = c.loop-done.into in
     let end = c.missing_end-end.result in
-    let size : length c.read_held-done.new.into ≡ length c.args.into.now = held.size ∙ run.size ∙ old.size in
+    let size : length c.read_in_memory-done.new.into ≡ length c.args.into.now = held.size ∙ run.size ∙ old.size in
     record {
       size = size;
       inside = held.inside;

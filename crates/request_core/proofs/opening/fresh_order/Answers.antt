@@ -1,5 +1,5 @@
 use Rattle.std.proofs.Common.{[]}
-use Rattle.request_core.proofs.Opened.{zero_outside}
+use Rattle.request_core.proofs.FreshOrderShows.{zero_outside}
 use Rattle.request_core.proofs.opening.fresh_order.Goals as goal
 
 pub returns-clause-image : goal.returns-clause-image

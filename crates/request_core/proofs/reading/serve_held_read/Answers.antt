@@ -11,9 +11,9 @@ use Rattle.shared_cache.specs.Cache.{bytes_seen}
 pub bytes_answer-requires-clause-zero : goal.bytes_answer-requires-clause-zero
 bytes_answer-requires-clause-zero g c =
     let head = c.args.head.now in
-    let into = c.read_held.new.into in
+    let into = c.read_in_memory.new.into in
     let items = c.cut.new.bytes.items in
-    let read = c.read_held.ensures in
+    let read = c.read_in_memory.ensures in
     let size : length into ≡ c.in-Ok-vec.bytes.len = read.size ∙ ap length c.deref_mut.ensures.value ∙ sym c.in-Ok-vec.bytes.ok.0 in
     let long : length into ≡ 4096 * blocks_met head.offset head.length = size ∙ c.in-Ok-vec.ensures.len ∙ c.bytes.ensures ∙ ap (λ (n : ℕ). 4096 * n) c.of-blocks.ensures.count in
     let part : items ≡ take head.length (drop (head.offset % 4096) into) = c.cut.ensures ∙ ap (λ (l : List ℕ). take head.length (drop (head.offset % 4096) l)) (whole c.in-Ok-vec.bytes.len into c.in-Ok-vec.bytes.items size) in
@@ -26,9 +26,9 @@ pub returns : goal.returns
 returns g c =
     let head = c.args.head.now in
     let old = c.args.order.now in
-    let into = c.read_held.new.into in
+    let into = c.read_in_memory.new.into in
     let items = c.cut.new.bytes.items in
-    let read = c.read_held.ensures in
+    let read = c.read_in_memory.ensures in
     let size : length into ≡ c.in-Ok-vec.bytes.len = read.size ∙ ap length c.deref_mut.ensures.value ∙ sym c.in-Ok-vec.bytes.ok.0 in
     let long : length into ≡ 4096 * blocks_met head.offset head.length = size ∙ c.in-Ok-vec.ensures.len ∙ c.bytes.ensures ∙ ap (λ (n : ℕ). 4096 * n) c.of-blocks.ensures.count in
     let part : items ≡ take head.length (drop (head.offset % 4096) into) = c.cut.ensures ∙ ap (λ (l : List ℕ). take head.length (drop (head.offset % 4096) l)) (whole c.in-Ok-vec.bytes.len into c.in-Ok-vec.bytes.items size) in
@@ -63,10 +63,10 @@ pub read_runs-requires-clause-inside : goal.read_runs-requires-clause-inside
 read_runs-requires-clause-inside g c = c.requires.inside
 
 pub returns-in_default : goal.returns-in_default
-returns-in_default g c = inl c.refused.ensures
+returns-in_default g c = inl c.refuse.ensures
 
 pub returns-in_default-vec : goal.returns-in_default-vec
-returns-in_default-vec g c = inl c.refused-in_default-vec.ensures
+returns-in_default-vec g c = inl c.refuse-in_default-vec.ensures
 
 pub of-blocks-requires : goal.of-blocks-requires
 of-blocks-requires g c = omega arith
@@ -74,14 +74,14 @@ of-blocks-requires g c = omega arith
 pub bytes-requires : goal.bytes-requires
 bytes-requires g c = search rules
 
-pub read_held-requires-clause-whole : goal.read_held-requires-clause-whole
-read_held-requires-clause-whole g c = search rules
+pub read_in_memory-requires-clause-whole : goal.read_in_memory-requires-clause-whole
+read_in_memory-requires-clause-whole g c = search rules
 
-pub read_held-requires-clause-range : goal.read_held-requires-clause-range
-read_held-requires-clause-range g c = search rules
+pub read_in_memory-requires-clause-range : goal.read_in_memory-requires-clause-range
+read_in_memory-requires-clause-range g c = search rules
 
-pub read_held-requires-clause-held : goal.read_held-requires-clause-held
-read_held-requires-clause-held g c = search rules
+pub read_in_memory-requires-clause-held : goal.read_in_memory-requires-clause-held
+read_in_memory-requires-clause-held g c = search rules
 
 pub cut-requires : goal.cut-requires
 cut-requires g c = search rules
@@ -107,9 +107,9 @@ bytes_answer-requires-clause-runs g c = c.in-Ok.ensures
 pub bytes_answer-requires-clause-size : goal.bytes_answer-requires-clause-size
 bytes_answer-requires-clause-size g c =
     let head = c.args.head.now in
-    let into = c.read_held.new.into in
+    let into = c.read_in_memory.new.into in
     let items = c.cut.new.bytes.items in
-    let read = c.read_held.ensures in
+    let read = c.read_in_memory.ensures in
     let size : length into ≡ c.in-Ok-vec.bytes.len = read.size ∙ ap length c.deref_mut.ensures.value ∙ sym c.in-Ok-vec.bytes.ok.0 in
     let long : length into ≡ 4096 * blocks_met head.offset head.length = size ∙ c.in-Ok-vec.ensures.len ∙ c.bytes.ensures ∙ ap (λ (n : ℕ). 4096 * n) c.of-blocks.ensures.count in
     let part : items ≡ take head.length (drop (head.offset % 4096) into) = c.cut.ensures ∙ ap (λ (l : List ℕ). take head.length (drop (head.offset % 4096) l)) (whole c.in-Ok-vec.bytes.len into c.in-Ok-vec.bytes.items size) in

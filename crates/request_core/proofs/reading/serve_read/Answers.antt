@@ -81,7 +81,7 @@ returns g c = record {
 
 pub returns-in_default : goal.returns-in_default
 returns-in_default g c = record {
-  read = inl (refl, refl, c.refused.ensures);
+  read = inl (refl, refl, c.refuse.ensures);
   hit = λ held. (refl, refl);
   count = refl;
   extent = refl;
@@ -90,7 +90,7 @@ returns-in_default g c = record {
 
 pub returns-in_default-vec : goal.returns-in_default-vec
 returns-in_default-vec g c = record {
-  read = inl (refl, refl, c.refused-in_default-vec.ensures);
+  read = inl (refl, refl, c.refuse-in_default-vec.ensures);
   hit = λ held. (refl, refl);
   count = refl;
   extent = refl;

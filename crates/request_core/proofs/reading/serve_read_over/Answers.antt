@@ -45,7 +45,7 @@ returns-clause-read g c =
     let place : (k : ℕ) → 4096 * ((head.offset + k) / 4096) + (head.offset + k) % 4096 ≡ head.offset + k = λ k. omega arith in
     let answer_is = c.bytes_answer.ensures given (λ block. ap (λ (s : List Kind). state_at s block) (sym states)) (λ k below. sym (at k)) in
     inr (record {
-      works = sym c.stopped.ensures ∙ c.if-stopped.false;
+      works = sym c.is_stopped.ensures ∙ c.if-is_stopped.false;
       inside = part_holds head.offset head.length into items part long (λ block k byte. bytes_seen old.cache block ≡ None → LiesIn block c.args.span)
           (λ j k below inside none. read.done refl j (omega (arith, below, same_size)) none);
       image = given;
@@ -68,14 +68,14 @@ returns-clause-read g c =
       states = states;
     })
 
-pub returns-then-stopped-clause-read : goal.returns-then-stopped-clause-read
-returns-then-stopped-clause-read g c = search rules
+pub returns-then-is_stopped-clause-read : goal.returns-then-is_stopped-clause-read
+returns-then-is_stopped-clause-read g c = search rules
 
-pub returns-then-stopped-clause-stopped : goal.returns-then-stopped-clause-stopped
-returns-then-stopped-clause-stopped g c = search rules
+pub returns-then-is_stopped-clause-stopped : goal.returns-then-is_stopped-clause-stopped
+returns-then-is_stopped-clause-stopped g c = search rules
 
-pub returns-then-stopped-clause-back : goal.returns-then-stopped-clause-back
-returns-then-stopped-clause-back g c = search rules
+pub returns-then-is_stopped-clause-back : goal.returns-then-is_stopped-clause-back
+returns-then-is_stopped-clause-back g c = search rules
 
 pub returns-in_default-clause-read : goal.returns-in_default-clause-read
 returns-in_default-clause-read g c = search rules
@@ -158,17 +158,17 @@ read_over-requires-clause-some g c = search rules
 pub returns-in_default-clause-unchanged : goal.returns-in_default-clause-unchanged
 returns-in_default-clause-unchanged g c = search rules
 
-pub returns-then-stopped-clause-blocks : goal.returns-then-stopped-clause-blocks
-returns-then-stopped-clause-blocks g c = refl
+pub returns-then-is_stopped-clause-blocks : goal.returns-then-is_stopped-clause-blocks
+returns-then-is_stopped-clause-blocks g c = refl
 
 pub returns-in_default-clause-blocks : goal.returns-in_default-clause-blocks
 returns-in_default-clause-blocks g c = refl
 
-pub returns-then-stopped-clause-size : goal.returns-then-stopped-clause-size
-returns-then-stopped-clause-size g c = c.requires.size
+pub returns-then-is_stopped-clause-size : goal.returns-then-is_stopped-clause-size
+returns-then-is_stopped-clause-size g c = c.requires.size
 
-pub returns-then-stopped-clause-unchanged : goal.returns-then-stopped-clause-unchanged
-returns-then-stopped-clause-unchanged g c = refl
+pub returns-then-is_stopped-clause-unchanged : goal.returns-then-is_stopped-clause-unchanged
+returns-then-is_stopped-clause-unchanged g c = refl
 
 pub returns-in_default-clause-size : goal.returns-in_default-clause-size
 returns-in_default-clause-size g c = tt

@@ -158,8 +158,8 @@ await_mark-requires g c = record { asked = λ kept speaks. record { request = c.
 pub returns-in-3-clause-client : goal.returns-in-3-clause-client
 returns-in-3-clause-client g c =
     let order = ap (λ (o : OrderState). o.mark) c.await_mark.ensures.same in
-    client_flushed g.T.Trust.mode c.args.request c.args.order.now.mark c.await_mark.new.self.mark c.await_mark.result (flush_waits c.args.terms.mode) c.head-head.result.cookie c.flushed.result c.args.pass.now.client c.await_mark.new.pass.client
-    (is_flush_3 c.head-head.result c.args.request c.head-head.ensures c.in-3.is) order (c.await_mark.ensures.mark ∙ sym order) (ap (λ (p : PassState). p.client) c.await_mark.ensures.pass) c.flushed.ensures
+    client_flushed g.T.Trust.mode c.args.request c.args.order.now.mark c.await_mark.new.self.mark c.await_mark.result (flush_waits c.args.terms.mode) c.head-head.result.cookie c.answer_flush.result c.args.pass.now.client c.await_mark.new.pass.client
+    (is_flush_3 c.head-head.result c.args.request c.head-head.ensures c.in-3.is) order (c.await_mark.ensures.mark ∙ sym order) (ap (λ (p : PassState). p.client) c.await_mark.ensures.pass) c.answer_flush.ensures
 
 pub serve_held_edit-requires-clause-asked : goal.serve_held_edit-requires-clause-asked
 serve_held_edit-requires-clause-asked g c = c.requires.asked

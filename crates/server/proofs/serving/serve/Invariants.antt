@@ -5,7 +5,7 @@ use Rattle.server.proofs.serving.serve.Given as goal
 abbrev pub ghosts-serve_logged : goal.ghosts-serve_logged
 ghosts-serve_logged g a = record {
   logs = Unit {0};
-  trusted = IsTrustedWith g.D.Disk.state g.D.Disk.honest g.H.ReadBeside.vouches a.device.keeper a.device.beside (image_found g.D.Disk.state a.device.keeper);
+  trusted = IsTrustedWith g.D.Disk.state g.D.Disk.honest g.H.ReadUnlocked.vouches a.device.keeper a.device.second_handle (image_found g.D.Disk.state a.device.keeper);
   mode = a.options.mode;
   image = image_found g.D.Disk.state a.device.keeper;
 }

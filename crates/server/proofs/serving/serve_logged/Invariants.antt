@@ -16,5 +16,5 @@ ghosts-serve_over-B-ImageName g a = record {
   image = image_found g.D.Disk.state a.device.keeper;
   start = g.D.Disk.state a.device.keeper.disk;
   trusted = IsTrusted g.D.Disk.state g.D.Disk.honest a.device.keeper (image_found g.D.Disk.state a.device.keeper);
-  vouches = λ read. (handle : g.row.H.Denot) × (a.device.beside ≡ Some handle) × g.H.ReadBeside.vouches handle read;
+  vouches = λ read. (handle : g.row.H.Denot) × (a.device.second_handle ≡ Some handle) × g.H.ReadUnlocked.vouches handle read;
 }

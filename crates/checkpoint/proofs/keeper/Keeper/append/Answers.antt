@@ -21,7 +21,7 @@ use Rattle.device_image.specs.Keeper.{KeeperState}
 use Rattle.device_image.specs.Keeps.{Keeps}
 use Rattle.device_image.specs.Stands.{StandsFor}
 use Rattle.device_image.specs.laws.Kept.{first, kept_content}
-use Rattle.checkpoint.proofs.Added.{more_held, leaves_either, count_below, count_above, count_on, allowed, filled, is_next, never_failed, ordered, same_count}
+use Rattle.checkpoint.proofs.AppendKeepsImage.{more_held, leaves_either, count_below, count_above, count_on, allowed, filled, is_next, never_failed, ordered, same_count}
 use Rattle.checkpoint.proofs.keeper.Keeper.append.Goals as goal
 use Rattle.device_image.specs.Holds.{Holds, joined}
 use Rattle.device_image.specs.Remembers.{Remembers}

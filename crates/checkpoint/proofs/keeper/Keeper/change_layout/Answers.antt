@@ -14,8 +14,8 @@ use Rattle.checkpoint.proofs.HeaderLeft.{header_left}
 use Rattle.checkpoint.specs.Keeper.{AreSized, IsSized, faults_by}
 use Rattle.checkpoint.specs.inner.Upgrade.{IsLayoutFault}
 use Rattle.checkpoint.specs.declared.fault.KeeperFault.{KeeperFault}
-use Rattle.checkpoint.proofs.Rotating.{current_held, slots_synced}
-use Rattle.checkpoint.proofs.Upgrading.{change_kept, change_left, changed_by, header_either, upgrade_next}
+use Rattle.checkpoint.proofs.HeaderChangeRemembers.{current_held, slots_synced}
+use Rattle.checkpoint.proofs.UpgradeKeepsImage.{change_kept, change_left, changed_by, header_either, upgrade_next}
 use Rattle.checkpoint.proofs.keeper.Keeper.change_layout.Goals as goal
 
 pub returns-in-Two : goal.returns-in-Two

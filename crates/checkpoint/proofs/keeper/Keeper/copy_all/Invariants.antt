@@ -5,7 +5,7 @@ use Rattle.device_image.specs.Keeps.{Keeps}
 use Rattle.device_image.specs.Stands.{StandsFor}
 use Rattle.checkpoint.specs.Headers.{HasHeader}
 use Rattle.checkpoint.specs.Steps.{fewer, left_in}
-use Rattle.checkpoint.proofs.Recovered.{copied_to}
+use Rattle.checkpoint.proofs.RecoveryKeepsImage.{copied_to}
 use Rattle.checkpoint.proofs.keeper.Keeper.copy_all.Given as goal
 use Rattle.device_image.specs.Remembers.{Remembers}
 use Rattle.image_model.specs.Change.{Change}

@@ -5,7 +5,7 @@ use Rattle.checkpoint.specs.Keeper.{faults_by, refused_by}
 use Rattle.checkpoint.specs.Steps.{IsStepFault}
 use Rattle.checkpoint.specs.declared.fault.KeeperFault.{KeeperFault}
 use Rattle.checkpoint.specs.declared.fault.KeeperFault.TheVariants.{DeviceFault, Failed, NotNow, NumbersFull}
-use Rattle.checkpoint.proofs.Answered.{Given, err_given, same_answer, same_fault}
+use Rattle.checkpoint.proofs.ExcludedRefusals.{Given, err_given, same_answer, same_fault}
 use Rattle.checkpoint.proofs.keeper.Keeper.copy_one.Goals as goal
 
 -- a refusal that is handed on is another one exactly where it was that

@@ -12,7 +12,7 @@ use Rattle.image_model.specs.declared.geometry.Geometry.{Geometry}
 use Rattle.checkpoint.specs.Keeper.{AreSized, IsSized, faults_by, plans_of, refused_by}
 use Rattle.checkpoint.specs.Steps.{IsCopyTime, IsStepFault, copied_by, left_in}
 use Rattle.checkpoint.specs.declared.fault.KeeperFault.{KeeperFault}
-use Rattle.checkpoint.proofs.Answered.{device_apart, failed-full, failed-not_now, memory_apart, not_now-failed, not_now-full, ok_apart, some_apart, err_given}
+use Rattle.checkpoint.proofs.ExcludedRefusals.{device_apart, failed-full, failed-not_now, memory_apart, not_now-failed, not_now-full, ok_apart, some_apart, err_given}
 use Rattle.device_image.specs.Keeper.{Copying, KeeperState, Memory, Phase, PlanState, last_turned, lefts_of, phase_in, phase_of, turned_of}
 use Rattle.device_image.specs.Remembers.{Remembers}
 use Rattle.device_image.specs.Keeps.{Keeps}
@@ -21,7 +21,7 @@ use Rattle.device_image.specs.laws.Kept.{kept_content}
 use Rattle.checkpoint.specs.Headers.{HasHeader}
 use Rattle.checkpoint.proofs.HeaderLeft.{header_left, header_torn}
 use Rattle.regions.specs.Layout.{block_at}
-use Rattle.checkpoint.proofs.Copying.{copy_held, copy_left}
+use Rattle.checkpoint.proofs.CopyKeepsImage.{copy_held, copy_left}
 use Rattle.checkpoint.proofs.keeper.Keeper.copy_some.Goals as goal
 use Rattle.device_image.specs.Holds.{Holds}
 

@@ -21,8 +21,8 @@ use Rattle.checkpoint.specs.Keeper.{AreSized, IsSized, faults_by, plans_of, refu
 use Rattle.checkpoint.specs.declared.fault.KeeperFault.{KeeperFault}
 use Rattle.checkpoint.specs.Steps.{IsFinishTime, IsStepFault, finished_by, first_turned}
 use Rattle.checkpoint.specs.inner.Steps.{map_after, plans_behind}
-use Rattle.checkpoint.proofs.Answered.{device_apart, failed-full, failed-no_memory, failed-not_now, full-failed, full-no_memory, full-not_now, not_now-failed, not_now-full, not_now-no_memory, ok_apart}
-use Rattle.checkpoint.proofs.Rotating.{current_held, ending, finish_held, finish_left, finish_next, in_map, lefts-behind, phase-behind, slots_synced, turned-behind}
+use Rattle.checkpoint.proofs.ExcludedRefusals.{device_apart, failed-full, failed-no_memory, failed-not_now, full-failed, full-no_memory, full-not_now, not_now-failed, not_now-full, not_now-no_memory, ok_apart}
+use Rattle.checkpoint.proofs.HeaderChangeRemembers.{current_held, ending, finish_held, finish_left, finish_next, in_map, lefts-behind, phase-behind, slots_synced, turned-behind}
 use Rattle.checkpoint.proofs.keeper.Keeper.finish.Goals as goal
 
 pub returns-then-self : goal.returns-then-self

@@ -3,7 +3,7 @@ use Rattle.std.proofs.lemmas.Bool.Decides.{nat_tests}
 use Rattle.device_image.specs.Keeper.{KeeperState}
 use Rattle.regions.specs.Layout.{areas_in}
 use Rattle.checkpoint.specs.Keeper.{plans_of}
-use Rattle.checkpoint.proofs.Rotating.{turned-length}
+use Rattle.checkpoint.proofs.HeaderChangeRemembers.{turned-length}
 use Rattle.checkpoint.proofs.keeper.Keeper.has_spare_area.Goals as goal
 
 pub returns-clause-spare : goal.returns-clause-spare

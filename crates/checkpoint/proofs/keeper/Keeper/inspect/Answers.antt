@@ -4,8 +4,8 @@ use Rattle.checkpoint.specs.inner.Report.{AreOf}
 use Rattle.checkpoint.proofs.Reported.{is_report, sized_of}
 use Rattle.checkpoint.proofs.keeper.Keeper.inspect.Goals as goal
 
-pub states_behind-requires-clause-plans : goal.states_behind-requires-clause-plans
-states_behind-requires-clause-plans g c =
+pub states_after_plans-requires-clause-plans : goal.states_after_plans-requires-clause-plans
+states_after_plans-requires-clause-plans g c =
     let call = c.in_ok-header.ensures in
     subst (λ (blocks : ℕ). AreOf blocks c.in_ok-header.field-0.plans.items) (sym call.placed.blocks) (sized_of c.in_ok-header.field-0.plans.items c.in_ok-header.field-0.header.geometry _ call.sized)
 

@@ -4,7 +4,7 @@ use Rattle.std.specs.Prelude.{IfSome}
 use Rattle.disk_model.specs.Faults.{counted}
 use Rattle.checkpoint.specs.Keeper.{AreSized, IsSized, faults_by, refused_by}
 use Rattle.checkpoint.specs.declared.fault.KeeperFault.{KeeperFault}
-use Rattle.checkpoint.proofs.Answered.{device_apart, ok_apart}
+use Rattle.checkpoint.proofs.ExcludedRefusals.{device_apart, ok_apart}
 use Rattle.checkpoint.proofs.BaseRead.{base_byte, holds_reading}
 use Rattle.checkpoint.proofs.Readings.{seen_steady}
 use Rattle.device_image.specs.Holds.{Holds}

@@ -29,9 +29,9 @@ use Rattle.checkpoint.specs.Keeper.{AreSized, IsSized, faults_by, plans_of, refu
 use Rattle.checkpoint.specs.Steps.{IsRotateTime, IsStepFault, phase_with, rotated_by}
 use Rattle.checkpoint.specs.declared.fault.KeeperFault.{KeeperFault}
 use Rattle.checkpoint.specs.declared.fault.KeeperFault.TheVariants.{NoMemory, DeviceFault}
-use Rattle.checkpoint.proofs.Answered.{Given, device_apart, err_given, failed-full, failed-not_now, full-failed, full-not_now, memory_apart, not_now-failed, no_memory, ok_apart, some_apart}
+use Rattle.checkpoint.proofs.ExcludedRefusals.{Given, device_apart, err_given, failed-full, failed-not_now, full-failed, full-not_now, memory_apart, not_now-failed, no_memory, ok_apart, some_apart}
 use Rattle.checkpoint.proofs.Areas.{last-push}
-use Rattle.checkpoint.proofs.Rotating.{ArePlansSized, added, comes_next, current_held, from_above, last_counted, lefts-push, next_sized, phase-push, rotate_held, rotate_left, rotated_left, sized_after, slots_synced, turned-push, uncopied_after}
+use Rattle.checkpoint.proofs.HeaderChangeRemembers.{ArePlansSized, added, comes_next, current_held, from_above, last_counted, lefts-push, next_sized, phase-push, rotate_held, rotate_left, rotated_left, sized_after, slots_synced, turned-push, uncopied_after}
 use Rattle.checkpoint.proofs.keeper.Keeper.rotate.Goals as goal
 
 above_zero : (n : ℕ) → false ≡ (n == 0) → 0 < n

@@ -5,7 +5,7 @@ use Rattle.device_image.specs.Keeper.{KeeperState}
 use Rattle.device_image.specs.Stands.{next_number}
 use Rattle.checkpoint.specs.Keeper.{IsSized, plans_of}
 use Rattle.checkpoint.specs.Steps.{IsFinishTime, first_turned}
-use Rattle.checkpoint.proofs.Rotating.{ArePlansSized, last_behind, sized_behind, time_some, uncopied_behind}
+use Rattle.checkpoint.proofs.HeaderChangeRemembers.{ArePlansSized, last_behind, sized_behind, time_some, uncopied_behind}
 use Rattle.checkpoint.proofs.keeper.Keeper.take_over.Goals as goal
 
 pub invariant_of-self : goal.invariant_of-self

@@ -15,7 +15,7 @@ use Rattle.header_slots.specs.declared.header.Header.{Header}
 use Rattle.checkpoint.specs.Keeper.{AreSized, IsSized, faults_by, plans_of, refused_by}
 use Rattle.checkpoint.specs.Steps.{IsMapTime, IsStepFault, mapped_by}
 use Rattle.checkpoint.specs.declared.fault.KeeperFault.{KeeperFault}
-use Rattle.checkpoint.proofs.Answered.{device_apart, failed-full, failed-not_now, memory_apart, not_now-failed, not_now-full, ok_apart, some_apart, err_given}
+use Rattle.checkpoint.proofs.ExcludedRefusals.{device_apart, failed-full, failed-not_now, memory_apart, not_now-failed, not_now-full, ok_apart, some_apart, err_given}
 use Rattle.device_image.specs.Keeper.{KeeperState, PlanState, Memory, last_turned, lefts_of, phase_in, phase_of, turned_of}
 use Rattle.device_image.specs.Keeps.{Keeps}
 use Rattle.device_image.specs.Stands.{StandsFor}
@@ -25,7 +25,7 @@ use Rattle.checkpoint.proofs.HeaderLeft.{header_left, header_torn}
 use Rattle.image_model.specs.Geometry.{map_bytes_of}
 use Rattle.regions.specs.Layout.{map_at}
 use Rattle.device_image.specs.inner.Copied.{IsMapStored}
-use Rattle.checkpoint.proofs.Mapping.{map_held, map_left}
+use Rattle.checkpoint.proofs.WriteMapKeepsImage.{map_held, map_left}
 use Rattle.checkpoint.proofs.keeper.Keeper.write_map.Goals as goal
 use Rattle.device_image.specs.Holds.{Holds}
 

@@ -1,7 +1,7 @@
 use Rattle.std.proofs.Common.{◌≡◌, None, sym, subst, arith}
 use Rattle.device_image.specs.Keeper.{PlanState}
 use Rattle.device_image.specs.Plan.{IsNextCopy}
-use Rattle.device_image.proofs.Next.{advanced}
+use Rattle.device_image.proofs.NextCopy.{advanced}
 use Rattle.device_image.proofs.plan.CopyPlan.advance.Goals as goal
 
 pub overflow_add-self : goal.overflow_add-self

@@ -3,7 +3,7 @@ use Rattle.std.specs.Prelude.{IfNone}
 use Rattle.latest_writes.specs.declared.range.PutRange.{PutRange}
 use Rattle.device_image.specs.Keeper.{PlanState}
 use Rattle.device_image.specs.Plan.{IsNextCopy, remembered}
-use Rattle.device_image.proofs.Next.{next_copy, none_left, unmapped}
+use Rattle.device_image.proofs.NextCopy.{next_copy, none_left, unmapped}
 use Rattle.device_image.proofs.plan.CopyPlan.next_copy.Goals as goal
 
 pub returns-in_err-put-clause-none : goal.returns-in_err-put-clause-none

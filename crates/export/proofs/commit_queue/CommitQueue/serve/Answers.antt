@@ -1,11 +1,11 @@
 use Rattle.std.proofs.Common.{◌<◌, ◌≤◌, refl, subst, sym}
 use Rattle.std.specs.List.{sum}
 use Rattle.order_book.specs.Order.{OrderState}
-use Rattle.export.proofs.Bounded.{here_bounded}
+use Rattle.export.proofs.PendingIsBounded.{here_bounded}
 use Rattle.export.proofs.Clients.{client_for, comes_here, shown_client}
-use Rattle.export.proofs.Fits.{here_fits, writes}
+use Rattle.export.proofs.AnswersFitRequests.{here_fits, writes}
 use Rattle.export.proofs.Submits.{served_for}
-use Rattle.export.proofs.Told.{shown_for, told}
+use Rattle.export.proofs.ServedIsShown.{shown_for, told}
 use Rattle.shared_store.specs.Orders.{Trusting}
 use Rattle.shared_store.specs.laws.Trust.{anyway, trusting}
 use Rattle.export.proofs.commit_queue.CommitQueue.serve.Goals as goal

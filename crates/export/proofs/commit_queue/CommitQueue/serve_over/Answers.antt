@@ -8,10 +8,10 @@ use Rattle.shared_store.specs.Answers.{ServesImage}
 use Rattle.shared_store.specs.Orders.{Trusting}
 use Rattle.shared_store.specs.laws.Trust.{trusting}
 use Rattle.export.proofs.Clients.{over_client_for, shown_client}
-use Rattle.export.proofs.Fits.{over_fits}
-use Rattle.export.proofs.Given.{given_same}
+use Rattle.export.proofs.AnswersFitRequests.{over_fits}
+use Rattle.export.proofs.UnlockedReadIsServed.{given_same}
 use Rattle.export.proofs.Submits.{over_served_for}
-use Rattle.export.proofs.Told.{shown_for, told}
+use Rattle.export.proofs.ServedIsShown.{shown_for, told}
 use Rattle.export.proofs.commit_queue.CommitQueue.serve_over.Goals as goal
 
 pub returns-clause-served : goal.returns-clause-served
@@ -54,7 +54,7 @@ serve_over-requires-clause-vouched g c =
 pub vouch-is_vouched-requires-clause-given : goal.vouch-is_vouched-requires-clause-given
 vouch-is_vouched-requires-clause-given g c =
     let span = c.args.planned.span in
-    given_same (λ (l : List ℕ). g.H.ReadBeside.gives c.args.handle.now c.args.planned.settled.number (block_at c.args.terms.now.geometry span.first) l) span.first span.end
+    given_same (λ (l : List ℕ). g.H.ReadUnlocked.gives c.args.handle.now c.args.planned.settled.number (block_at c.args.terms.now.geometry span.first) l) span.first span.end
     (c.args.request.now.head.offset / 4096) c.of.result.first c.args.bytes.items c.deref.result.now
     (sym (c.of.ensures.first ∙ ap (λ (h : RequestHead). h.offset / 4096) c.head-head.ensures)) (sym c.deref.ensures.value) c.requires.given
 

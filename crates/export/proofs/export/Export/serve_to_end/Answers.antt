@@ -1,7 +1,7 @@
 use Rattle.std.proofs.Common.{◌∙◌, ap, sym}
 use Rattle.export.proofs.Clients.{waited_may}
 use Rattle.export.proofs.Submits.{waited_for}
-use Rattle.export.proofs.Told.{waited_tells}
+use Rattle.export.proofs.ServedIsShown.{waited_tells}
 use Rattle.image_model.specs.Image.{apply_all}
 use Rattle.marks.specs.declared.view.Client.{Client}
 use Rattle.shared_store.specs.Orders.{Trusting}

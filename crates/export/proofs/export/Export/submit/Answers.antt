@@ -1,5 +1,5 @@
 use Rattle.std.proofs.Common.{◌≡◌, ◌∙◌, ◌++◌, ◌∷◌, [], List, ap, refl, subst, sym}
-use Rattle.export.proofs.Beginning.{begun_for, called, called_by}
+use Rattle.export.proofs.PassAcrossRequest.{begun_for, called, called_by}
 use Rattle.export.specs.Clients.{IsIdle}
 use Rattle.export.specs.Submits.{IsJudged, IsSubmitted}
 use Rattle.export_model.specs.Verdict.{verdict}

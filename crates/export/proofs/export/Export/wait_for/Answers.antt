@@ -27,8 +27,8 @@ returns-then-look_durable-number-3 g c =
     found c.args.number c.look_durable-in-loop.result c.args.pass.now c.loop.pass c.look_durable-in-loop.new.pass
     (then c.args.pass.now c.loop.pass c.look_durable-in-loop.new.pass before last) look.pass c.if-look_durable-number-3.true
 
-pub returns-then-stopped : goal.returns-then-stopped
-returns-then-stopped g c =
+pub returns-then-is_stopped : goal.returns-then-is_stopped
+returns-then-is_stopped g c =
     let is = c.loop.invariant in let before : IsLater c.args.pass.now c.loop.pass = record { own = is.own; client = is.client; knew = is.knew; lasts = is.lasts } in let look = c.look_durable-in-loop.ensures in
     let last = looked c.loop.pass c.look_durable-in-loop.new.pass c.look_durable-in-loop.result look.known look.seen look.pass in
     refused c.args.number c.args.pass.now c.look_durable-in-loop.new.pass (then c.args.pass.now c.loop.pass c.look_durable-in-loop.new.pass before last)

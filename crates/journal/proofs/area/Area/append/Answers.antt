@@ -6,7 +6,7 @@ use Rattle.journal_format.specs.GroupList.{IsListStored}
 use Rattle.journal_format.specs.Spelling.{stored_of}
 use Rattle.journal_format.specs.declared.touch.TouchedRange.{TouchedRange}
 use Rattle.journal.specs.Append.{grown}
-use Rattle.journal.proofs.Refused.{ok_apart, same_fault}
+use Rattle.journal.proofs.RefusalHandedOn.{ok_apart, same_fault}
 use Rattle.journal.proofs.area.Area.append.Goals as goal
 
 -- an area with the group noted, once its gate and its next number are after it

@@ -10,7 +10,7 @@ use Rattle.journal_format.specs.laws.Groups.{damage_of, holds_list, list_of}
 use Rattle.journal_format.specs.laws.Noted.{passed_on}
 use Rattle.journal_format.specs.laws.OneList.{damaged_none}
 use Rattle.journal_format.specs.laws.Windows.{scanned_before, scanned_after, scanned_on}
-use Rattle.journal.proofs.Refused.{err_with, ok_apart}
+use Rattle.journal.proofs.RefusalHandedOn.{err_with, ok_apart}
 use Rattle.journal.proofs.area.Area.scan.Goals as goal
 
 pub returns-in_err-end : goal.returns-in_err-end

@@ -12,7 +12,7 @@ use Rattle.journal_format.specs.Touches.{touched_by_changes}
 use Rattle.journal_format.specs.declared.fault.JournalFault.TheVariants.{NoMemory, DeviceFault, AreaFull, OutOfOrder, DamagedGroup}
 use Rattle.journal_format.specs.declared.touch.TouchedRange.{TouchedRange}
 use Rattle.journal.specs.laws.Added.{length-written, size-stored, follows, stays_either, range_synced, either_at, held_after_at}
-use Rattle.journal.proofs.Refused.{err_with, which_as, other_one, only_undamaged, only_kept, ok_apart}
+use Rattle.journal.proofs.RefusalHandedOn.{err_with, which_as, other_one, only_undamaged, only_kept, ok_apart}
 use Rattle.journal.proofs.area.Area.store.Goals as goal
 
 -- which refusals those of memory and of the device aren't

@@ -11,7 +11,7 @@ use Rattle.journal_format.specs.Scanning.{IsScanFault}
 use Rattle.journal_format.specs.Touches.{edge_ranges}
 use Rattle.journal_format.specs.laws.Chained.{none_read, reads_on}
 use Rattle.journal_format.specs.laws.Found.{no_head, no_edges, no_change, no_room, change_found, edged_or_not, head_within}
-use Rattle.journal_format.proofs.Refused.{err_with, not_damaged, ok_apart}
+use Rattle.journal_format.proofs.RefusalHandedOn.{err_with, not_damaged, ok_apart}
 use Rattle.journal_format.proofs.scan.Place.command.Goals as goal
 
 pub returns-then-end-place-lt-COMMAND_HEAD_BYTES : goal.returns-then-end-place-lt-COMMAND_HEAD_BYTES

@@ -10,7 +10,7 @@ use Rattle.journal_format.specs.laws.Noted.{passed_on}
 use Rattle.journal_format.specs.Faults.{faults_by}
 use Rattle.journal_format.specs.Scanning.{IsScanFault}
 use Rattle.journal_format.specs.declared.fault.JournalFault.TheVariants.{NoMemory, DamagedGroup}
-use Rattle.journal_format.proofs.Refused.{err_with, memory_undamaged, ok_apart}
+use Rattle.journal_format.proofs.RefusalHandedOn.{err_with, memory_undamaged, ok_apart}
 use Rattle.journal_format.proofs.scan.Place.commands.Goals as goal
 
 pub loop-init : goal.loop-init

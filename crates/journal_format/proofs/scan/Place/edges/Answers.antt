@@ -3,7 +3,7 @@ use Rattle.std.proofs.lemmas.Bool.{false≢true}
 use Rattle.std.proofs.lemmas.Result.{IfOk-from_err}
 use Rattle.journal_format.specs.inner.Scanning.{edges_said}
 use Rattle.journal_format.specs.laws.Chained.{none_read}
-use Rattle.journal_format.proofs.Refused.{err_counted}
+use Rattle.journal_format.proofs.RefusalHandedOn.{err_counted}
 use Rattle.journal_format.proofs.scan.Place.edges.Goals as goal
 
 pub returns-then-not-has_edges : goal.returns-then-not-has_edges

@@ -5,7 +5,7 @@ use Rattle.journal_format.specs.Scanning.{IsScanFault}
 use Rattle.journal_format.specs.declared.fault.JournalFault.TheVariants.{DeviceFault, DamagedGroup}
 use Rattle.journal_format.specs.laws.Chained.{reads_on}
 use Rattle.journal_format.specs.laws.Noted.{passed_on}
-use Rattle.journal_format.proofs.Refused.{err_with, not_damaged, ok_apart}
+use Rattle.journal_format.proofs.RefusalHandedOn.{err_with, not_damaged, ok_apart}
 use Rattle.journal_format.proofs.scan.Place.group_at.Goals as goal
 
 pub returns-in_err-byte : goal.returns-in_err-byte

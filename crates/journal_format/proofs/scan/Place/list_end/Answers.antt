@@ -8,7 +8,7 @@ use Rattle.journal_format.specs.laws.Groups.{lead_none, lead_more, lead_ends, le
 use Rattle.journal_format.specs.laws.Noted.{passed_on}
 use Rattle.journal_format.specs.Faults.{faults_by}
 use Rattle.journal_format.specs.declared.fault.JournalFault.TheVariants.{NoMemory}
-use Rattle.journal_format.proofs.Refused.{err_with, memory_undamaged}
+use Rattle.journal_format.proofs.RefusalHandedOn.{err_with, memory_undamaged}
 use Rattle.journal_format.proofs.scan.Place.list_end.Goals as goal
 
 pub loop-window-init : goal.loop-window-init

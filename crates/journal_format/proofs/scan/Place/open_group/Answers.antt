@@ -8,7 +8,7 @@ use Rattle.journal_format.specs.declared.fault.JournalFault.TheVariants.{DeviceF
 use Rattle.journal_format.specs.laws.Chained.{none_read, reads_on}
 use Rattle.journal_format.specs.laws.Groups.{no_group, no_body, group_found}
 use Rattle.journal_format.specs.laws.Noted.{passed_on}
-use Rattle.journal_format.proofs.Refused.{err_with, not_damaged, ok_apart}
+use Rattle.journal_format.proofs.RefusalHandedOn.{err_with, not_damaged, ok_apart}
 use Rattle.journal_format.proofs.scan.Place.open_group.Goals as goal
 use Rattle.journal_format.proofs.scan.Place.open_group.Goals.{then-not-is_next-via-then-not-is_next, then-not-is_next-via-else-not-is_next+then-self-at-2}
 

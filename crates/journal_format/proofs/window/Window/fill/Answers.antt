@@ -2,7 +2,7 @@ use Rattle.std.proofs.Common.{◌≡◌, ◌∙◌, ℕ, ◌<◌, List, ◌++◌
 use Rattle.std.proofs.lemmas.List.{get_or-take, get_or_append_left, length-append, length-take-le}
 use Rattle.std.proofs.lemmas.Result.{IfOk-from_err}
 use Rattle.journal_format.specs.laws.Windows.{scanned_on}
-use Rattle.journal_format.proofs.Refused.{err_counted}
+use Rattle.journal_format.proofs.RefusalHandedOn.{err_counted}
 use Rattle.journal_format.proofs.window.Window.fill.Goals as goal
 
 pub returns-in_err-read_front : goal.returns-in_err-read_front

@@ -8,31 +8,31 @@ use Rattle.nbdj_pipe.proofs.Checkpoints.{emptied_as}
 use Rattle.nbdj_pipe.proofs.Steps.{settles_on}
 use Rattle.nbdj_pipe.proofs.export.Export.checkpoint.Goals as goal
 
-pub returns-in_err-finish_checkpoint : goal.returns-in_err-finish_checkpoint
-returns-in_err-finish_checkpoint g c = record {
-  group = c.finish_checkpoint.ensures.group;
-  extent = c.finish_checkpoint.ensures.extent;
-  honest = c.finish_checkpoint.ensures.honest;
-  early = if_error IsOfExport c.in_err-finish_checkpoint.field-0.0 c.from_residual.result c.from_residual.ensures.1 c.in_err-finish_checkpoint.ensures.early;
+pub returns-in_err-complete_checkpoint : goal.returns-in_err-complete_checkpoint
+returns-in_err-complete_checkpoint g c = record {
+  group = c.complete_checkpoint.ensures.group;
+  extent = c.complete_checkpoint.ensures.extent;
+  honest = c.complete_checkpoint.ensures.honest;
+  early = if_error IsOfExport c.in_err-complete_checkpoint.field-0.0 c.from_residual.result c.from_residual.ensures.1 c.in_err-complete_checkpoint.ensures.early;
   world = λ world trusted of.
-      let first = c.in_err-finish_checkpoint.ensures.world world trusted of in (
+      let first = c.in_err-complete_checkpoint.ensures.world world trusted of in (
         first.0,
         first.1,
-        if_matched _ (λ refusal. HasCause refusal world first.0) c.in_err-finish_checkpoint.field-0.0 c.from_residual.result c.from_residual.ensures.1 first.2,
+        if_matched _ (λ refusal. HasCause refusal world first.0) c.in_err-complete_checkpoint.field-0.0 c.from_residual.result c.from_residual.ensures.1 first.2,
       );
 }
 
 pub returns-in_err-turn : goal.returns-in_err-turn
 returns-in_err-turn g c = record {
   group = c.turn.ensures.group;
-  extent = c.turn.ensures.extent ∙ c.finish_checkpoint.ensures.extent;
-  honest = (λ is. c.finish_checkpoint.ensures.honest.0 (c.turn.ensures.honest.0 is), λ is. c.turn.ensures.honest.1 (c.finish_checkpoint.ensures.honest.1 is));
+  extent = c.turn.ensures.extent ∙ c.complete_checkpoint.ensures.extent;
+  honest = (λ is. c.complete_checkpoint.ensures.honest.0 (c.turn.ensures.honest.0 is), λ is. c.turn.ensures.honest.1 (c.complete_checkpoint.ensures.honest.1 is));
   early = if_error IsOfExport c.in_err-turn.field-0.0 c.from_residual-in_err-turn.result c.from_residual-in_err-turn.ensures.1 c.in_err-turn.ensures.early;
   world = λ world trusted of.
       let disk = g.D.Disk in
-      let one = c.finish_checkpoint.new.self in
+      let one = c.complete_checkpoint.new.self in
       let two = c.turn.new.self in
-      let first = c.in_ok-finish_checkpoint.ensures.world world trusted of in
+      let first = c.in_ok-complete_checkpoint.ensures.world world trusted of in
       let second = c.in_err-turn.ensures.world first.0 trusted first.1.follows.leads.of_export in
       let turned = rotate second.0 first.0 in (
         turned,
@@ -43,57 +43,57 @@ returns-in_err-turn g c = record {
       );
 }
 
-pub returns-in_err-finish_checkpoint-2 : goal.returns-in_err-finish_checkpoint-2
-returns-in_err-finish_checkpoint-2 g c = record {
-  group = c.finish_checkpoint-2.ensures.group;
-  extent = c.finish_checkpoint-2.ensures.extent ∙ (c.turn.ensures.extent ∙ c.finish_checkpoint.ensures.extent);
-  honest = (λ is. c.finish_checkpoint.ensures.honest.0 (c.turn.ensures.honest.0 (c.finish_checkpoint-2.ensures.honest.0 is)), λ is. c.finish_checkpoint-2.ensures.honest.1 (c.turn.ensures.honest.1 (c.finish_checkpoint.ensures.honest.1 is)));
-  early = if_error IsOfExport c.in_err-finish_checkpoint-2.field-0.0 c.from_residual-in_err-finish_checkpoint-2.result c.from_residual-in_err-finish_checkpoint-2.ensures.1 c.in_err-finish_checkpoint-2.ensures.early;
+pub returns-in_err-complete_checkpoint-2 : goal.returns-in_err-complete_checkpoint-2
+returns-in_err-complete_checkpoint-2 g c = record {
+  group = c.complete_checkpoint-2.ensures.group;
+  extent = c.complete_checkpoint-2.ensures.extent ∙ (c.turn.ensures.extent ∙ c.complete_checkpoint.ensures.extent);
+  honest = (λ is. c.complete_checkpoint.ensures.honest.0 (c.turn.ensures.honest.0 (c.complete_checkpoint-2.ensures.honest.0 is)), λ is. c.complete_checkpoint-2.ensures.honest.1 (c.turn.ensures.honest.1 (c.complete_checkpoint.ensures.honest.1 is)));
+  early = if_error IsOfExport c.in_err-complete_checkpoint-2.field-0.0 c.from_residual-in_err-complete_checkpoint-2.result c.from_residual-in_err-complete_checkpoint-2.ensures.1 c.in_err-complete_checkpoint-2.ensures.early;
   world = λ world trusted of.
       let disk = g.D.Disk in
       let law = c.leads_law.ensures in
-      let one = c.finish_checkpoint.new.self in
+      let one = c.complete_checkpoint.new.self in
       let two = c.turn.new.self in
-      let three = c.finish_checkpoint-2.new.self in
-      let first = c.in_ok-finish_checkpoint.ensures.world world trusted of in
+      let three = c.complete_checkpoint-2.new.self in
+      let first = c.in_ok-complete_checkpoint.ensures.world world trusted of in
       let second = c.in_ok-turn.ensures.world first.0 trusted first.1.follows.leads.of_export in
       let turned = rotate second.0 first.0 in
       let so_far = settles_on disk.state disk.faults disk.honest law world first.0 turned trusted one.order two.order one.keeper two.keeper one.connections two.connections c.args.self.now.keeper.disk
       c.turn.ensures.honest.0 first.1 second.1 in
-      let third = c.in_err-finish_checkpoint-2.ensures.world turned trusted second.1.follows.leads.of_export in (
+      let third = c.in_err-complete_checkpoint-2.ensures.world turned trusted second.1.follows.leads.of_export in (
         third.0,
         settles_on disk.state disk.faults disk.honest law world turned third.0 trusted two.order three.order two.keeper three.keeper two.connections three.connections c.args.self.now.keeper.disk
-            c.finish_checkpoint-2.ensures.honest.0 so_far third.1,
-        if_matched _ (λ refusal. HasCause refusal world third.0) c.in_err-finish_checkpoint-2.field-0.0 c.from_residual-in_err-finish_checkpoint-2.result c.from_residual-in_err-finish_checkpoint-2.ensures.1
-            (cause_behind c.in_err-finish_checkpoint-2.field-0.0 world turned third.0 so_far.follows.steps so_far.follows.leads.run third.2),
+            c.complete_checkpoint-2.ensures.honest.0 so_far third.1,
+        if_matched _ (λ refusal. HasCause refusal world third.0) c.in_err-complete_checkpoint-2.field-0.0 c.from_residual-in_err-complete_checkpoint-2.result c.from_residual-in_err-complete_checkpoint-2.ensures.1
+            (cause_behind c.in_err-complete_checkpoint-2.field-0.0 world turned third.0 so_far.follows.steps so_far.follows.leads.run third.2),
       );
 }
 
 pub returns : goal.returns
 returns g c = record {
   group = c.store_step.ensures.group;
-  extent = c.store_step.ensures.extent ∙ (c.finish_checkpoint-2.ensures.extent ∙ (c.turn.ensures.extent ∙ c.finish_checkpoint.ensures.extent));
-  honest = (λ is. c.finish_checkpoint.ensures.honest.0 (c.turn.ensures.honest.0 (c.finish_checkpoint-2.ensures.honest.0 (c.store_step.ensures.honest.0 is))), λ is. c.store_step.ensures.honest.1 (c.finish_checkpoint-2.ensures.honest.1 (c.turn.ensures.honest.1 (c.finish_checkpoint.ensures.honest.1 is))));
+  extent = c.store_step.ensures.extent ∙ (c.complete_checkpoint-2.ensures.extent ∙ (c.turn.ensures.extent ∙ c.complete_checkpoint.ensures.extent));
+  honest = (λ is. c.complete_checkpoint.ensures.honest.0 (c.turn.ensures.honest.0 (c.complete_checkpoint-2.ensures.honest.0 (c.store_step.ensures.honest.0 is))), λ is. c.store_step.ensures.honest.1 (c.complete_checkpoint-2.ensures.honest.1 (c.turn.ensures.honest.1 (c.complete_checkpoint.ensures.honest.1 is))));
   early = tt;
   world = λ world trusted of.
       let disk = g.D.Disk in
       let law = c.leads_law.ensures in
       let grows = c.schedule_law.ensures.grows in
-      let one = c.finish_checkpoint.new.self in
+      let one = c.complete_checkpoint.new.self in
       let two = c.turn.new.self in
-      let three = c.finish_checkpoint-2.new.self in
+      let three = c.complete_checkpoint-2.new.self in
       let four = c.store_step.new.self in
-      let first = c.in_ok-finish_checkpoint.ensures.world world trusted of in
+      let first = c.in_ok-complete_checkpoint.ensures.world world trusted of in
       let done = first.1.follows.leads.of_export in
       let second = c.in_ok-turn.ensures.world first.0 trusted done in
       let turned = rotate second.0 first.0 in
-      let third = c.in_ok-finish_checkpoint-2.ensures.world turned trusted second.1.follows.leads.of_export in
+      let third = c.in_ok-complete_checkpoint-2.ensures.world turned trusted second.1.follows.leads.of_export in
       let fourth = c.store_step.ensures.world third.0 trusted third.1.follows.leads.of_export in
       let cleaned = clean third.0 in
       let so_far = settles_on disk.state disk.faults disk.honest law world first.0 turned trusted one.order two.order one.keeper two.keeper one.connections two.connections c.args.self.now.keeper.disk
       c.turn.ensures.honest.0 first.1 second.1 in
       let on = settles_on disk.state disk.faults disk.honest law world turned third.0 trusted two.order three.order two.keeper three.keeper two.connections three.connections c.args.self.now.keeper.disk
-      c.finish_checkpoint-2.ensures.honest.0 so_far third.1 in
+      c.complete_checkpoint-2.ensures.honest.0 so_far third.1 in
       let clean_stays = (grows third.0 cleaned (Clean ∷ []) (fourth.0, refl)).stopped in
       let finish_stays = (grows turned third.0 third.1.follows.steps third.1.follows.leads.run).stopped in
       let rotate_stays = (grows first.0 turned (Rotate ∷ []) (second.0, refl)).stopped in (

@@ -3,7 +3,7 @@ use Rattle.nbd_wire.specs.declared.message.Answer.{Answer}
 use Rattle.export_steps.specs.Life.{Trusts}
 use Rattle.export_model.specs.declared.connection.Connection.TheVariants.{Idle}
 use Rattle.export_model.specs.declared.event.Event.{Event}
-use Rattle.export_model.specs.declared.event.Event.TheVariants.{Answered, Held}
+use Rattle.export_model.specs.declared.event.Event.TheVariants.{Answered, Skipped}
 use Rattle.export_model.specs.declared.step.Step.TheVariants as steps
 use Rattle.export_model.specs.Step.{after_step}
 use Rattle.export_model.specs.World.{World}
@@ -16,9 +16,9 @@ use Rattle.nbdj_pipe.proofs.export.Export.try_answer.Goals as goal
 gave : (world next : World) (event : Event) (answer : Answer) (c : ℕ) → IsAnsweredAs world (world.connections 0) next → next.log ≡ world.log ++ event ∷ [] → event ≡ Answered c answer
     → (next.connections 0 ≡ Idle) × IsGiven (world.connections 0) answer × (event ≡ Answered 0 answer)
 gave world next event answer c (inl held) log is =
-    let same = last_same world.log event Held (sym log ∙ ap (λ (w : World). w.log) held.0) in absurd (apart (sym is ∙ same))
+    let same = last_same world.log event Skipped (sym log ∙ ap (λ (w : World). w.log) held.0) in absurd (apart (sym is ∙ same))
   where
-    apart : Answered c answer ≡ Held → ⊥
+    apart : Answered c answer ≡ Skipped → ⊥
     apart is = cc
 gave world next event answer c (inr (given, answered, fits)) log is =
     let same = last_same world.log event (Answered 0 given) (sym log ∙ ap (λ (w : World). w.log) answered) in
@@ -35,7 +35,7 @@ gave world next event answer c (inr (given, answered, fits)) log is =
 gave_none : (world next : World) (event : Event) → IsAnsweredAs world (world.connections 0) next → next.log ≡ world.log ++ event ∷ [] → ((c : ℕ) (answer : Answer) → event ≡ Answered c answer → ⊥)
     → (next.connections ≡ world.connections) × IsWaiting world × (spoken (event ∷ []) ≡ [])
 gave_none world next event (inl (held, works, (number, waits, above))) log other =
-    let same = last_same world.log event Held (sym log ∙ ap (λ (w : World). w.log) held) in
+    let same = last_same world.log event Skipped (sym log ∙ ap (λ (w : World). w.log) held) in
     (ap (λ (w : World). w.connections) held, record { works = works; number = number; waits = waits; above = above }, ap (λ (e : Event). spoken (e ∷ [])) same)
 gave_none world next event (inr (given, answered, fits)) log other =
     absurd (other 0 given (last_same world.log event (Answered 0 given) (sym log ∙ ap (λ (w : World). w.log) answered)))

@@ -1,6 +1,6 @@
 use Rattle.std.proofs.Common.{◌∙◌, refl, sym}
 use Rattle.image_model.specs.Change.{change_of}
-use Rattle.order_book.proofs.Answered.{due_of, not_full, not_no_room, not_stopped}
+use Rattle.order_book.proofs.ExcludedRefusals.{due_of, not_full, not_no_room, not_stopped}
 use Rattle.order_book.proofs.order.Order.accept.Goals as goal
 
 pub returns : goal.returns

@@ -14,42 +14,42 @@ use Rattle.order_book.specs.Order.{OrderState}
 use Rattle.order_book.specs.Reading.{IsCleanAt}
 use Rattle.order_book.specs.Shown.{ShowsImage}
 use Rattle.order_book.specs.laws.Edited.{IsSameFor, same_becomes, same_takes, shows_in, shows_with}
-use Rattle.order_book.proofs.Answered.{IsHeld, IsUnread, always, each_err, faults_read, faults_same, keeper_read, keeper_same, memory_alone, never, never_then, not_full, not_no_room, not_stopped, unread_failed, unread_faults, unread_full, unread_keeper, unread_room, unread_stopped}
+use Rattle.order_book.proofs.ExcludedRefusals.{IsHeld, IsUnread, always, each_err, faults_read, faults_same, keeper_read, keeper_same, memory_alone, never, never_then, not_full, not_no_room, not_stopped, unread_failed, unread_faults, unread_full, unread_keeper, unread_room, unread_stopped}
 use Rattle.order_book.proofs.Editing.{same_read}
-use Rattle.order_book.proofs.Handed.{ok_is_none}
-use Rattle.order_book.proofs.Taking.{has_asked, map_ok}
+use Rattle.order_book.proofs.KeeperRefusalHandedOn.{ok_is_none}
+use Rattle.order_book.proofs.EditBecomesCommand.{has_asked, map_ok}
 use Rattle.order_book.proofs.order.Order.accept_edit.Goals as goal
 
 pub returns-then-not-needs_device : goal.returns-then-not-needs_device
 returns-then-not-needs_device g c = record {
-  number = c.accept_held.ensures.number;
+  number = c.accept_in_memory.ensures.number;
   taken =
       let cache = c.args.self.now.cache in
-      map_ok c.accept_held.result (λ taken. (image_in cache, shows_in cache, taken)) (c.accept_held.ensures.taken (image_in cache) (shows_in cache));
-  held = λ none image shows. c.accept_held.ensures.taken image shows;
-  image = λ honest base image fronts last holds shows clean. c.accept_held.ensures.taken image shows;
-  blocks = c.accept_held.ensures.blocks;
-  numbers = c.accept_held.ensures.numbers;
-  place = c.accept_held.ensures.place;
-  handed_back = c.accept_held.ensures.handed_back;
-  unchanged = c.accept_held.ensures.unchanged;
-  known = c.accept_held.ensures.known;
-  knew = c.accept_held.ensures.knew;
-  client = c.accept_held.ensures.client;
-  pass_unchanged = c.accept_held.ensures.pass_unchanged;
-  stopped = c.accept_held.ensures.stopped;
-  numbers_full = c.accept_held.ensures.numbers_full;
-  no_room = c.accept_held.ensures.no_room;
-  device_fault = never_then c.accept_held.result DeviceFault _ (each_err c.accept_held.result (IsHeld c.accept_held.result) (λ fault. fault ≡ DeviceFault → ⊥) (λ fault apart. apart.0) c.accept_held.ensures.no_device);
+      map_ok c.accept_in_memory.result (λ taken. (image_in cache, shows_in cache, taken)) (c.accept_in_memory.ensures.taken (image_in cache) (shows_in cache));
+  held = λ none image shows. c.accept_in_memory.ensures.taken image shows;
+  image = λ honest base image fronts last holds shows clean. c.accept_in_memory.ensures.taken image shows;
+  blocks = c.accept_in_memory.ensures.blocks;
+  numbers = c.accept_in_memory.ensures.numbers;
+  place = c.accept_in_memory.ensures.place;
+  handed_back = c.accept_in_memory.ensures.handed_back;
+  unchanged = c.accept_in_memory.ensures.unchanged;
+  known = c.accept_in_memory.ensures.known;
+  knew = c.accept_in_memory.ensures.knew;
+  client = c.accept_in_memory.ensures.client;
+  pass_unchanged = c.accept_in_memory.ensures.pass_unchanged;
+  stopped = c.accept_in_memory.ensures.stopped;
+  numbers_full = c.accept_in_memory.ensures.numbers_full;
+  no_room = c.accept_in_memory.ensures.no_room;
+  device_fault = never_then c.accept_in_memory.result DeviceFault _ (each_err c.accept_in_memory.result (IsHeld c.accept_in_memory.result) (λ fault. fault ≡ DeviceFault → ⊥) (λ fault apart. apart.0) c.accept_in_memory.ensures.no_device);
   failed =
-      never c.accept_held.result Failed (IsTrue c.args.keeper.now.failed × NeedsDevice c.args.self.now (edit_of c.args.edit))
-      (each_err c.accept_held.result (IsHeld c.accept_held.result) (λ fault. fault ≡ Failed → ⊥) (λ fault apart. apart.1) c.accept_held.ensures.no_device) (λ both. true≢false (sym (c.needs_device.ensures.1 both.1) ∙ c.if-not-needs_device.true));
+      never c.accept_in_memory.result Failed (IsTrue c.args.keeper.now.failed × NeedsDevice c.args.self.now (edit_of c.args.edit))
+      (each_err c.accept_in_memory.result (IsHeld c.accept_in_memory.result) (λ fault. fault ≡ Failed → ⊥) (λ fault apart. apart.1) c.accept_in_memory.ensures.no_device) (λ both. true≢false (sym (c.needs_device.ensures.1 both.1) ∙ c.if-not-needs_device.true));
   hit = λ none. refl;
-  keeper_ok = always c.accept_held.result refl;
-  keeper_err = keeper_same c.accept_held.result c.args.keeper.now c.accept_held.ensures.no_device;
+  keeper_ok = always c.accept_in_memory.result refl;
+  keeper_err = keeper_same c.accept_in_memory.result c.args.keeper.now c.accept_in_memory.ensures.no_device;
   extent = refl;
-  faults_ok = always c.accept_held.result refl;
-  faults_err = faults_same c.accept_held.result (g.D.Disk.faults c.args.keeper.now.disk) c.accept_held.ensures.no_device;
+  faults_ok = always c.accept_in_memory.result refl;
+  faults_err = faults_same c.accept_in_memory.result (g.D.Disk.faults c.args.keeper.now.disk) c.accept_in_memory.ensures.no_device;
   honest = (λ honest. honest, λ honest. honest);
   only_read = λ honest. none_read (g.met.D.Disk.sound c.args.keeper.now.disk honest);
   holds = λ honest base fronts last holds no_fault. holds;
@@ -109,7 +109,7 @@ pub returns-in-Err : goal.returns-in-Err
 returns-in-Err g c =
     let needs = c.needs_device.ensures.0 c.if-not-needs_device.false in
     let change = becomes (edit_of c.args.edit) (image_in c.args.self.now.cache) in
-    let unread : IsUnread c.in-Err.fault c.of_keeper.result = record { only = c.in-Err.ensures.only; device = c.of_keeper.ensures.device_fault; failed = c.of_keeper.ensures.failed } in record {
+    let unread : IsUnread c.in-Err.fault c.from_keeper_fault.result = record { only = c.in-Err.ensures.only; device = c.from_keeper_fault.ensures.device_fault; failed = c.from_keeper_fault.ensures.failed } in record {
       number = tt;
       taken = tt;
       held = λ none image shows. tt;
@@ -123,24 +123,24 @@ returns-in-Err g c =
       knew = tt;
       client = tt;
       pass_unchanged = refl;
-      stopped = unread_stopped c.in-Err.fault c.of_keeper.result unread c.args.self.now change needs.accepted;
-      numbers_full = unread_full c.in-Err.fault c.of_keeper.result unread c.args.self.now change needs.accepted;
-      no_room = unread_room c.in-Err.fault c.of_keeper.result unread c.args.self.now change needs.accepted;
+      stopped = unread_stopped c.in-Err.fault c.from_keeper_fault.result unread c.args.self.now change needs.accepted;
+      numbers_full = unread_full c.in-Err.fault c.from_keeper_fault.result unread c.args.self.now change needs.accepted;
+      no_room = unread_room c.in-Err.fault c.from_keeper_fault.result unread c.args.self.now change needs.accepted;
       device_fault = λ is. needs;
       failed =
           let lacks = subst (λ (o : OrderState). LacksOld (edit_of c.args.edit) o.cache) (sym c.self.view_is) needs.lacks in
-          unread_failed c.in-Err.fault c.of_keeper.result unread
+          unread_failed c.in-Err.fault c.from_keeper_fault.result unread
           c.in-Err.ensures.failed (λ both. (both.0, needs)) (λ both. (both.0, lacks));
       hit = λ none. absurd (none needs);
       keeper_ok = tt;
-      keeper_err = unread_keeper c.in-Err.fault c.of_keeper.result unread c.args.keeper.now c.read_old.new.keeper c.in-Err.ensures.err;
+      keeper_err = unread_keeper c.in-Err.fault c.from_keeper_fault.result unread c.args.keeper.now c.read_old.new.keeper c.in-Err.ensures.err;
       extent = c.in-Err.ensures.extent;
       faults_ok = tt;
-      faults_err = unread_faults c.in-Err.fault c.of_keeper.result unread _ _ c.in-Err.ensures.faults_err;
+      faults_err = unread_faults c.in-Err.fault c.from_keeper_fault.result unread _ _ c.in-Err.ensures.faults_err;
       honest = c.in-Err.ensures.honest;
       only_read = c.in-Err.ensures.only_read;
       holds = λ honest base fronts last holds no_fault. elim c.in-Err.ensures.only [
-        | inl is ↦ absurd (no_fault (c.of_keeper.ensures.device_fault is))
+        | inl is ↦ absurd (no_fault (c.from_keeper_fault.ensures.device_fault is))
         | inr is ↦
             let same = subst (λ (fault : KeeperFault). c.read_old.new.keeper ≡ refused_by fault c.args.keeper.now c.read_old.new.keeper.disk) is c.in-Err.ensures.err in
             subst (λ (keeper : KeeperState g.row.D.Denot). Holds keeper (g.D.Disk.state keeper.disk) base fronts last) (sym same) holds
@@ -153,11 +153,11 @@ needs_device-requires-clause-edit g c = c.requires.edit
 pub needs_device-requires-clause-few : goal.needs_device-requires-clause-few
 needs_device-requires-clause-few g c = c.requires.few
 
-pub accept_held-requires-clause-edit : goal.accept_held-requires-clause-edit
-accept_held-requires-clause-edit g c = c.requires.edit
+pub accept_in_memory-requires-clause-edit : goal.accept_in_memory-requires-clause-edit
+accept_in_memory-requires-clause-edit g c = c.requires.edit
 
-pub accept_held-requires-clause-few : goal.accept_held-requires-clause-few
-accept_held-requires-clause-few g c = c.requires.few
+pub accept_in_memory-requires-clause-few : goal.accept_in_memory-requires-clause-few
+accept_in_memory-requires-clause-few g c = c.requires.few
 
 pub take_edit-requires-clause-edit : goal.take_edit-requires-clause-edit
 take_edit-requires-clause-edit g c = c.requires.edit
@@ -165,8 +165,8 @@ take_edit-requires-clause-edit g c = c.requires.edit
 pub take_edit-requires-clause-few : goal.take_edit-requires-clause-few
 take_edit-requires-clause-few g c = c.requires.few
 
-pub accept_held-requires-clause-held : goal.accept_held-requires-clause-held
-accept_held-requires-clause-held g c needs = true≢false (sym (c.needs_device.ensures.1 needs) ∙ c.if-not-needs_device.true)
+pub accept_in_memory-requires-clause-held : goal.accept_in_memory-requires-clause-held
+accept_in_memory-requires-clause-held g c needs = true≢false (sym (c.needs_device.ensures.1 needs) ∙ c.if-not-needs_device.true)
 
 pub read_old-requires-clause-edit : goal.read_old-requires-clause-edit
 read_old-requires-clause-edit g c = subst (λ (o : OrderState). IsEdit (length o.cache.states) (edit_of c.args.edit)) (sym c.self.view_is) c.requires.edit
@@ -183,11 +183,11 @@ take_edit-requires-clause-head g c = c.in-Ok.ensures.head
 pub take_edit-requires-clause-tail : goal.take_edit-requires-clause-tail
 take_edit-requires-clause-tail g c = c.in-Ok.ensures.tail
 
-pub of_keeper-requires : goal.of_keeper-requires
-of_keeper-requires g c = c.in-Err.ensures.only
+pub from_keeper_fault-requires : goal.from_keeper_fault-requires
+from_keeper_fault-requires g c = c.in-Err.ensures.only
 
-pub accept_held-requires-clause-asked : goal.accept_held-requires-clause-asked
-accept_held-requires-clause-asked g c = c.requires.asked
+pub accept_in_memory-requires-clause-asked : goal.accept_in_memory-requires-clause-asked
+accept_in_memory-requires-clause-asked g c = c.requires.asked
 
 pub take_edit-requires-clause-asked : goal.take_edit-requires-clause-asked
 take_edit-requires-clause-asked g c = λ kept.

@@ -1,7 +1,7 @@
 use Rattle.std.proofs.Common.{sym, subst}
 use Rattle.shared_cache.specs.Cache.{CacheState}
 use Rattle.order_book.specs.Shown.{ShowsImage}
-use Rattle.order_book.proofs.Shown.{shows_fresh}
+use Rattle.order_book.proofs.CacheShowsImage.{shows_fresh}
 use Rattle.order_book.proofs.order.Order.new.Goals as goal
 
 pub returns-clause-image : goal.returns-clause-image

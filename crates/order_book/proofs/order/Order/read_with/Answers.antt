@@ -10,9 +10,9 @@ use Rattle.order_book.specs.Order.{OrderState}
 use Rattle.order_book.specs.Reading.{IsCleanAt, IsKept, ShowsRead}
 use Rattle.order_book.specs.Shown.{ShowsImage}
 use Rattle.order_book.specs.State.{state_of}
-use Rattle.order_book.proofs.Handed.{err_with, failed_on, on_err, on_ok, works_on}
-use Rattle.order_book.proofs.Imaged.{bytes_read, shows_read}
-use Rattle.order_book.proofs.Taken.{order_read, read_new}
+use Rattle.order_book.proofs.KeeperRefusalHandedOn.{err_with, failed_on, on_err, on_ok, works_on}
+use Rattle.order_book.proofs.ReadsShowImage.{bytes_read, shows_read}
+use Rattle.order_book.proofs.OrderKeepsRest.{order_read, read_new}
 use Rattle.shared_cache.specs.Cache.{CacheState, LacksBytes, bytes_seen}
 use Rattle.order_book.proofs.order.Order.read_with.Goals as goal
 

@@ -12,8 +12,8 @@ use Rattle.order_book.specs.Cached.{ShowsCommand, dirty_of, frames_of}
 use Rattle.order_book.specs.Order.{OrderState, with_command}
 use Rattle.order_book.specs.Shown.{ShowsImage}
 use Rattle.order_book.specs.State.{state_of}
-use Rattle.order_book.proofs.Small.{frames_left, number_left, room_left}
-use Rattle.order_book.proofs.Taken.{order_roomy, order_taken, taken_as}
+use Rattle.order_book.proofs.CommandsFitGroup.{frames_left, number_left, room_left}
+use Rattle.order_book.proofs.OrderKeepsRest.{order_roomy, order_taken, taken_as}
 use Rattle.order_book.proofs.order.Order.take.Goals as goal
 use Rattle.shared_cache.specs.Cache.{CacheState}
 

@@ -6,7 +6,7 @@ use Rattle.image_model.specs.Edit.{becomes, edit_of, offset_of}
 use Rattle.order_book.specs.Edits.{image_in, image_with}
 use Rattle.order_book.specs.Order.{OrderState, refusal_for}
 use Rattle.order_book.specs.laws.Edited.{same_refusal}
-use Rattle.order_book.proofs.Taking.{becomes_taken, whole_becomes}
+use Rattle.order_book.proofs.EditBecomesCommand.{becomes_taken, whole_becomes}
 use Rattle.order_book.proofs.order.Order.take_edit.Goals as goal
 
 pub take_whole_put-requires-clause-free : goal.take_whole_put-requires-clause-free

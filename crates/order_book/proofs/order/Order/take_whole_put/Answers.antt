@@ -4,7 +4,7 @@ use Rattle.marks.specs.Client.{HasAsked}
 use Rattle.marks.specs.Known.{PassState}
 use Rattle.image_model.specs.Edit.{edit_of}
 use Rattle.order_book.specs.Edits.{image_in}
-use Rattle.order_book.proofs.Taking.{becomes_taken, makes_take, whole_becomes}
+use Rattle.order_book.proofs.EditBecomesCommand.{becomes_taken, makes_take, whole_becomes}
 use Rattle.order_book.proofs.order.Order.take_whole_put.Goals as goal
 
 pub take-requires-clause-command : goal.take-requires-clause-command

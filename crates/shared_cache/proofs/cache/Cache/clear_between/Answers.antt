@@ -8,7 +8,7 @@ use Rattle.image_model.specs.Patched.{patched}
 use Rattle.image_model.specs.laws.Positions.{length-patched}
 use Rattle.shared_cache.specs.Blocks.{BlocksState, DirtyBlock, without}
 use Rattle.shared_cache.specs.Cache.{CacheState}
-use Rattle.shared_cache.specs.Held.{HeldState, blocks_of}
+use Rattle.shared_cache.specs.CachedBlocks.{CachedState, blocks_of}
 use Rattle.shared_cache.proofs.FrameBytes.{order_seen}
 use Rattle.shared_cache.specs.laws.Edges.{room_at_head, room_at_tail, shows_edges}
 use Rattle.shared_cache.specs.laws.Once.{held_once}
@@ -17,7 +17,7 @@ use Rattle.shared_cache.specs.laws.Views.{once_seen}
 use Rattle.shared_cache.proofs.cache.Cache.clear_between.Goals as goal
 
 -- what is let go of, once memory for the index is there
-held_again : (inside : ℕ → Bool) (held reserved : HeldState) (s left : BlocksState) → blocks_of held.pool held.blocks ≡ s
+held_again : (inside : ℕ → Bool) (held reserved : CachedState) (s left : BlocksState) → blocks_of held.pool held.blocks ≡ s
     → reserved.pool ≡ held.pool → reserved.blocks ≡ held.blocks → left ≡ without inside (blocks_of reserved.pool reserved.blocks) → left ≡ without inside s
 held_again inside held reserved s left is pool blocks gone = gone ∙ ap (without inside) (same_held held reserved pool blocks ∙ is)
 

@@ -6,8 +6,8 @@ use Rattle.marks.specs.Known.{KeeperKnows}
 use Rattle.disk_model.specs.Disk.{LeavesOnly}
 use Rattle.shared_store.specs.Keepers.{SeatedState}
 use Rattle.shared_store.specs.Parts.{StandsWithin}
-use Rattle.shared_store.proofs.Keeping.{append_leaves, leaves_still, passing, refused_leaves}
-use Rattle.shared_store.proofs.Keeping.{append_refused, append_stored}
+use Rattle.shared_store.proofs.StoredBeginsHistory.{append_leaves, leaves_still, passing, refused_leaves}
+use Rattle.shared_store.proofs.StoredBeginsHistory.{append_refused, append_stored}
 use Rattle.shared_store.proofs.keeper.SharedKeeper.append.Goals as goal
 
 pub invariant_of-self : goal.invariant_of-self

@@ -2,8 +2,8 @@ use Rattle.disk_model.specs.Disk.{LeavesOnly}
 use Rattle.shared_store.specs.Keepers.{SeatedState}
 use Rattle.shared_store.specs.Parts.{StandsWithin}
 use Rattle.std.proofs.Common.{refl, subst}
-use Rattle.shared_store.proofs.Keeping.{leaves_step, passing_by}
-use Rattle.shared_store.proofs.Keeping.{copied}
+use Rattle.shared_store.proofs.StoredBeginsHistory.{leaves_step, passing_by}
+use Rattle.shared_store.proofs.StoredBeginsHistory.{copied}
 use Rattle.shared_store.proofs.keeper.SharedKeeper.copy_some.Goals as goal
 
 pub invariant_of-self : goal.invariant_of-self

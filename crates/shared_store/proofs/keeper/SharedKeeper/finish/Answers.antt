@@ -6,8 +6,8 @@ use Rattle.shared_store.specs.Keepers.{IsOfHistory}
 use Rattle.disk_model.specs.Disk.{LeavesOnly}
 use Rattle.shared_store.specs.Keepers.{SeatedState}
 use Rattle.shared_store.specs.Parts.{StandsWithin}
-use Rattle.shared_store.proofs.Keeping.{leaves_step, passing_by}
-use Rattle.shared_store.proofs.Keeping.{ended, first_after, step_refused, worked}
+use Rattle.shared_store.proofs.StoredBeginsHistory.{leaves_step, passing_by}
+use Rattle.shared_store.proofs.StoredBeginsHistory.{ended, first_after, step_refused, worked}
 use Rattle.shared_store.proofs.keeper.SharedKeeper.finish.Goals as goal
 
 pub invariant_of-self : goal.invariant_of-self

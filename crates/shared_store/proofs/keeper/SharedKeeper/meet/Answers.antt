@@ -1,5 +1,5 @@
 use Rattle.std.proofs.Common.{refl}
-use Rattle.shared_store.proofs.Keeping.{left_longer, passing_still, seated}
+use Rattle.shared_store.proofs.StoredBeginsHistory.{left_longer, passing_still, seated}
 use Rattle.shared_store.proofs.keeper.SharedKeeper.meet.Goals as goal
 
 pub invariant_of-self : goal.invariant_of-self

@@ -6,7 +6,7 @@ use Rattle.marks.specs.Known.{KeeperKnows, Marks, PassState}
 use Rattle.marks.specs.laws.Beginnings.{prefix_trans}
 use Rattle.shared_store.specs.Keepers.{SeatedState, HasLeft}
 use Rattle.shared_store.specs.Parts.{StandsWithin}
-use Rattle.shared_store.proofs.Keeping.{left_longer, passing_still, seated, stands_less}
+use Rattle.shared_store.proofs.StoredBeginsHistory.{left_longer, passing_still, seated, stands_less}
 use Rattle.shared_store.proofs.keeper.SharedKeeper.meet_pass.Goals as goal
 
 pub invariant_of-self : goal.invariant_of-self

@@ -1,4 +1,4 @@
-use Rattle.shared_store.proofs.Keeping.{begun, opened}
+use Rattle.shared_store.proofs.StoredBeginsHistory.{begun, opened}
 use Rattle.shared_store.proofs.keeper.SharedKeeper.new.Goals as goal
 
 pub invariant_of-result : goal.invariant_of-result

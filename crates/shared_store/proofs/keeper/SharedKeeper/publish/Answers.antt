@@ -1,5 +1,5 @@
 use Rattle.order_book.specs.Order.{is_published}
-use Rattle.shared_store.proofs.Keeping.{grown_seat, passing_still, published}
+use Rattle.shared_store.proofs.StoredBeginsHistory.{grown_seat, passing_still, published}
 use Rattle.shared_store.proofs.keeper.SharedKeeper.publish.Goals as goal
 
 pub invariant_of-self : goal.invariant_of-self

@@ -2,7 +2,7 @@ use Rattle.disk_model.specs.Disk.{LeavesOnly}
 use Rattle.shared_store.specs.Keepers.{SeatedState}
 use Rattle.shared_store.specs.Parts.{StandsWithin}
 use Rattle.std.proofs.Common.{refl, subst}
-use Rattle.shared_store.proofs.Keeping.{passing_by}
+use Rattle.shared_store.proofs.StoredBeginsHistory.{passing_by}
 use Rattle.shared_store.proofs.Serving.{with_leaves}
 use Rattle.shared_store.proofs.Serving.{with_keeper}
 use Rattle.shared_store.proofs.keeper.SharedKeeper.serve.Goals as goal

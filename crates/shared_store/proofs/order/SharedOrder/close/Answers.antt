@@ -7,7 +7,7 @@ use Rattle.marks.specs.Known.{KeeperKnows}
 use Rattle.marks.specs.laws.Beginnings.{prefix_self}
 use Rattle.order_book.specs.Order.{OrderState}
 use Rattle.shared_store.specs.Parts.{StandsWithin}
-use Rattle.shared_store.proofs.Keeping.{stands_less}
+use Rattle.shared_store.proofs.StoredBeginsHistory.{stands_less}
 use Rattle.shared_store.proofs.order.SharedOrder.close.Goals as goal
 
 pub returns-clause-log : goal.returns-clause-log

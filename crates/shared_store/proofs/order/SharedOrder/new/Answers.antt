@@ -2,7 +2,7 @@ use Rattle.std.proofs.Common.{[], subst, sym}
 use Rattle.shared_store.specs.Orders.{AreRight, IsOrderOfHistory}
 use Rattle.order_book.specs.Order.{OrderState}
 use Rattle.order_book.specs.Shown.{ShowsImage}
-use Rattle.shared_store.proofs.Ordering.{fresh}
+use Rattle.shared_store.proofs.OrderKnowsHistory.{fresh}
 use Rattle.shared_store.proofs.order.SharedOrder.new.Goals as goal
 
 pub invariant_of-result : goal.invariant_of-result

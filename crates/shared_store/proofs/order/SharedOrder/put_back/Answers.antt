@@ -1,4 +1,4 @@
-use Rattle.shared_store.proofs.Ordering.{put_back}
+use Rattle.shared_store.proofs.OrderKnowsHistory.{put_back}
 use Rattle.shared_store.specs.Orders.{AreRight}
 use Rattle.shared_store.proofs.Resting.{kept}
 use Rattle.shared_store.proofs.order.SharedOrder.put_back.Goals as goal

@@ -2,7 +2,7 @@ use Rattle.std.specs.Prelude.{IfSome}
 use Rattle.std.proofs.Common.{Option, subst, ap, ◌∙◌}
 use Rattle.journal_format.specs.Group.{Numbered}
 use Rattle.order_book.specs.Order.{OrderState, Seals}
-use Rattle.shared_store.proofs.Ordering.{sealed, sealed_group}
+use Rattle.shared_store.proofs.OrderKnowsHistory.{sealed, sealed_group}
 use Rattle.shared_store.specs.Orders.{AreRight}
 use Rattle.shared_store.proofs.Resting.{kept}
 use Rattle.shared_store.proofs.order.SharedOrder.seal.Goals as goal

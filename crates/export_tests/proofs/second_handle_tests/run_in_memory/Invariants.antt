@@ -1,0 +1,15 @@
+use Rattle.device_image.specs.Stands.{holes}
+use Rattle.shared_store.specs.Keepers.{empty_device}
+use Rattle.export_tests.proofs.second_handle_tests.run_in_memory.Given as goal
+
+-- the board that was just made
+abbrev pub ghosts-run_over-B-BoardName : goal.ghosts-run_over-B-BoardName
+ghosts-run_over-B-BoardName g a = record { board = a.device.blank.board; opening = a.device.blank.opening }
+
+-- the sizes of the device
+abbrev pub ghosts-run_over-B-ExportName : goal.ghosts-run_over-B-ExportName
+ghosts-run_over-B-ExportName g a = record { geometry = a.device.keeper.geometry }
+
+-- an image of as many blocks, and nothing that is trusted
+abbrev pub ghosts-run_over-B-ImageName : goal.ghosts-run_over-B-ImageName
+ghosts-run_over-B-ImageName g a = record { image = holes a.device.keeper.geometry.blocks; start = empty_device; trusted = ⊥; vouches = λ read. Unit {0} }
