@@ -208,8 +208,9 @@ impl<B: ExportName, D: Disk, H: ReadUnlocked, T: Trust> Export<B, D, H, T> {
     /// Whatever a crash may leave of the device stands for the image as the opening found it after a beginning of that history, with
     /// all that the pass knows to be durable; and whatever one may have left at any moment since, for it after a beginning.
     ///
-    /// If the board kept a log, it is one log of just what the clients sent and were answered whose passes were joined, and nothing of a client
-    /// that was never made. It agrees with that history, and whatever a crash may leave of the device has all that the log covers.
+    /// If the board kept a log, there is one that agrees with that history, and whatever a crash may leave of the device has all that it covers.
+    /// Of each client whose pass was joined it has exactly what that client sent and was answered, and of a client that was never made it has
+    /// nothing. Of a client whose pass wasn't joined it says nothing.
     pub fn close(self, last: LastPass<B>) -> (D, bool, Pass<B>)
         ensures knew { IsPrefix last.pass.history result.2.history }
         ensures durable { last.pass.durable ≤ result.2.durable }

@@ -48,6 +48,7 @@ impl<B: ExportName, D: Disk, H: ReadUnlocked, T: Trust> Export<B, D, H, T> {
         ensures covered { IfSome result (λ answer. IsCovered B.opening pass.old pass.new) }
         ensures lasts { pass.old.durable ≤ pass.new.durable }
         ensures own { pass.new.own ≡ pass.old.own }
+        ensures client { pass.new.client ≡ pass.old.client }
     {
         let accepted = self.board.look_accepted(&mut pass.pass);
         let durable = self.board.look_durable(&mut pass.pass);

@@ -37,9 +37,9 @@ use std::thread::{self, Scope, Threads};
 /// beginning of one history of write commands; and at Ok whatever one may leave then stands for the image after all of that. At Ok
 /// the device has counted no fault since it was opened; a failed read by its second handle is none.
 ///
-/// There is one log of what clients sent and were answered, over all threads, which agrees with one history of write commands: each answer
-/// has what all others were answered before its request was sent. Whatever a crash may leave in the end has all that the log covers, and at Ok
-/// all of the history.
+/// There are a log of requests and answers, over all threads, and one history of write commands with which it agrees: each answer has what all
+/// others in the log were answered before its request was sent. Whatever a crash may leave in the end has all that the log covers, and at Ok all
+/// of the history. Which requests and answers these are is said of each client by `Export::submit`, and by no clause here.
 pub fn serve<D, H, R, I, G>(
     rt: &R,
     alloc: Global,
