@@ -1,1 +1,2 @@
 mod Served
+mod Sessions

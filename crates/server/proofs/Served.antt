@@ -1,5 +1,5 @@
 -- What is left of a device that was served.
-use Rattle.std.specs.Prelude.{OnOk}
+use Rattle.std.specs.Prelude.{IsOk, OnOk}
 use Rattle.std.proofs.Common.{◌≡◌, ℕ, ◌+◌, ◌≤◌, false, List, [], Result, Ok, Err, length, refl, subst, sym, arith}
 use Rattle.device_image.specs.Stands.{StandsFor}
 use Rattle.disk_model.specs.Disk.{LeavesOnly, State}
@@ -35,6 +35,15 @@ reaching start now opening image history least other reaches is = record {
 pub on_ok : {T E : Type 0} {A B : Type 0} (result : Result T E) → OnOk result A → (A → B) → OnOk result B
 on_ok (Ok value) is then = then is
 on_ok (Err error) is then = tt
+
+pub ok_of : {T U E F : Type 0} (A : Type 0) (result : Result T E) (earlier : Result U F) → OnOk result (IsOk earlier) → OnOk earlier A → OnOk result A
+ok_of A (Ok value) (Ok done) is then = then
+ok_of A (Ok value) (Err error) is then = cc is
+ok_of A (Err error) earlier is then = tt
+
+pub both_ok : {T E : Type 0} (A B : Type 0) (result : Result T E) → OnOk result A → OnOk result B → OnOk result (A × B)
+both_ok A B (Ok value) first second = (first, second)
+both_ok A B (Err error) first second = tt
 
 -- a log of nothing
 pub no_log : (geometry : Geometry) (trusted : Type 0) (mode : Mode) (image : Image) → IsOneLog trusted mode image [] 0 (record { made = 0; calls = [] })

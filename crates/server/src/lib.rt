@@ -5,8 +5,10 @@ mod client;
 mod client_registry;
 mod listener;
 mod log;
+mod name;
 mod request_handler;
 mod serving;
+mod session_pass;
 mod worker;
 
 pub use client::Client;

@@ -1,22 +1,26 @@
-ghost use Rattle.std.specs.Prelude.{◌≡◌, ◌+◌, [], false, IfErr, IfOk, IsTrue, List, OnOk, Some, length, vec_len};
+ghost use Rattle.std.specs.Prelude.{◌≡◌, ◌+◌, [], false, IfErr, IfOk, IsOk, IsTrue, List, OnOk, Some, length, vec_len};
 ghost use Rattle.device_image.specs.Stands.{StandsFor};
 ghost use Rattle.disk_model.specs.Disk.{LeavesOnly};
+ghost use Rattle.export.specs.Clients.{new_client_passes};
 ghost use Rattle.export.specs.Left.{KeepsLog, LeavesHistory};
 ghost use Rattle.export.specs.Trusted.{IsTrusted, IsTrustedWith, image_found};
+ghost use Rattle.export_model.specs.Log.{flush_waits};
 ghost use Rattle.export_model.specs.OneLog.{RosterState};
 ghost use Rattle.image_model.specs.Change.{Change};
 ghost use Rattle.marks.specs.Known.{new_pass};
+ghost use Rattle.negotiation.specs.Answered.{offered};
+ghost use Rattle.server.specs.Sessions.{AreServed, HasAll};
 ghost use Rattle.shared_store.specs.Logs.{IsLogOf};
 ghost use Rattle.shared_store.specs.Orders.{SpanRead};
 
 use crate::client_registry::ClientRegistry;
 use crate::listener::Listener;
 use crate::log::Log;
+use crate::name::ServerName;
 use crate::worker::{Server, Task, WorkerPool};
 use disk_model::Disk;
 use export::{
-    ClientPass, Export, ExportName, LastPass, OpenDevice, ReadUnlocked, SyncPoints,
-    opened_device_law,
+    ClientPass, Export, LastPass, OpenDevice, ReadUnlocked, SyncPoints, opened_device_law,
 };
 use front_end::{Refusal, ServeOptions};
 use marks::{BlankBoard, Trust};
@@ -39,7 +43,8 @@ use std::thread::{self, Scope, Threads};
 ///
 /// There are a log of requests and answers, over all threads, and one history of write commands with which it agrees: each answer has what all
 /// others in the log were answered before its request was sent. Whatever a crash may leave in the end has all that the log covers, and at Ok all
-/// of the history. Which requests and answers these are is said of each client by `Export::submit`, and by no clause here.
+/// of the history. All that the log has of a client whose worker has ended comes from sessions over streams, as `serve_session` has them: the
+/// requests that were read, with the answers whose replies were written. Which bytes a socket gave and took is said by no clause.
 pub fn serve<D, H, R, I, G>(
     rt: &R,
     alloc: Global,
@@ -62,8 +67,9 @@ where
         × LeavesHistory (D.state device.keeper.disk) (D.state result.1) device.keeper.count (image_found D.state device.keeper) history (device.keeper.count + length history)) }
     ensures log { (history : List Change) × (roster : RosterState)
         × KeepsLog (IsTrustedWith D.state D.honest H.vouches device.keeper device.second_handle (image_found D.state device.keeper)) options.mode (IsTrusted D.state D.honest device.keeper (image_found D.state device.keeper)) (D.state device.keeper.disk) (D.state result.1) device.keeper.count (image_found D.state device.keeper) history roster
-        × OnOk result.0 (IsTrusted D.state D.honest device.keeper (image_found D.state device.keeper)
-        → LeavesHistory (D.state device.keeper.disk) (D.state result.1) device.keeper.count (image_found D.state device.keeper) history (device.keeper.count + length history)) }
+        × ∥ AreServed (offered device.keeper.geometry name.entry.bytes.now (flush_waits options.mode)) device.keeper.geometry roster.calls ∥₁
+        × OnOk result.0 (HasAll roster × (IsTrusted D.state D.honest device.keeper (image_found D.state device.keeper)
+        → LeavesHistory (D.state device.keeper.disk) (D.state result.1) device.keeper.count (image_found D.state device.keeper) history (device.keeper.count + length history))) }
     ensures honest { IsTrusted D.state D.honest device.keeper (image_found D.state device.keeper) → D.honest result.1 }
     ensures faults { OnOk result.0 (D.faults result.1 ≡ D.faults device.keeper.disk) }
 {
@@ -158,8 +164,9 @@ where
         × LeavesHistory (D.state device.keeper.disk) (D.state result.1) device.keeper.count (image_found D.state device.keeper) history (device.keeper.count + length history)) }
     ensures log { T.logs → (history : List Change) × (roster : RosterState)
         × KeepsLog T.trusted T.mode (IsTrusted D.state D.honest device.keeper (image_found D.state device.keeper)) (D.state device.keeper.disk) (D.state result.1) device.keeper.count (image_found D.state device.keeper) history roster
-        × OnOk result.0 (IsTrusted D.state D.honest device.keeper (image_found D.state device.keeper)
-        → LeavesHistory (D.state device.keeper.disk) (D.state result.1) device.keeper.count (image_found D.state device.keeper) history (device.keeper.count + length history)) }
+        × ∥ AreServed (offered device.keeper.geometry name.entry.bytes.now (flush_waits options.mode)) device.keeper.geometry roster.calls ∥₁
+        × OnOk result.0 (HasAll roster × (IsTrusted D.state D.honest device.keeper (image_found D.state device.keeper)
+        → LeavesHistory (D.state device.keeper.disk) (D.state result.1) device.keeper.count (image_found D.state device.keeper) history (device.keeper.count + length history))) }
     ensures honest { IsTrusted D.state D.honest device.keeper (image_found D.state device.keeper) → D.honest result.1 }
     ensures faults { OnOk result.0 (D.faults result.1 ≡ D.faults device.keeper.disk) }
 {
@@ -194,7 +201,7 @@ fn serve_over<B, D, H, T, R, G>(
     watch: G,
 ) -> (Result<(), Refusal>, D)
 where
-    B: ExportName + Send + Sync,
+    B: ServerName + Send + Sync,
     D: Disk + Send + Drop,
     H: ReadUnlocked + Send + Sync,
     T: Trust + Send + Sync,
@@ -208,10 +215,12 @@ where
     requires vouches { (handle : H) → device.second_handle ≡ Some handle → (read : SpanRead) → H.vouches handle read → B.vouches read }
     requires geometry { device.keeper.geometry ≡ B.geometry }
     requires log { T.logs → IsLogOf B.opening B.image B.vouches B.trusted options.mode T.trusted T.mode T.image }
+    requires offers { offered device.keeper.geometry name.bytes.now (flush_waits options.mode) ≡ B.offer }
     ensures left { B.trusted → (history : List Change) × LeavesHistory B.start (D.state result.1) B.opening B.image history B.opening }
     ensures stored { OnOk result.0 (B.trusted → (history : List Change) × LeavesHistory B.start (D.state result.1) B.opening B.image history (B.opening + length history)) }
     ensures log { T.logs → (history : List Change) × (roster : RosterState) × KeepsLog T.trusted T.mode B.trusted B.start (D.state result.1) B.opening B.image history roster
-        × OnOk result.0 (B.trusted → LeavesHistory B.start (D.state result.1) B.opening B.image history (B.opening + length history)) }
+        × ∥ AreServed B.offer B.geometry roster.calls ∥₁
+        × OnOk result.0 (HasAll roster × (B.trusted → LeavesHistory B.start (D.state result.1) B.opening B.image history (B.opening + length history))) }
     ensures honest { B.trusted → D.honest result.1 }
     ensures faults { OnOk result.0 (D.faults result.1 ≡ D.faults device.keeper.disk) }
 {
@@ -232,6 +241,7 @@ where
 
 // What a server has come to: why it couldn't begin, whether a call of the device has failed, and whether all is stored.
 fn end_of(served: Result<(), Refusal>, has_failed: bool, is_stored: bool) -> Result<(), Refusal>
+    ensures served { OnOk result (IsOk served) }
     ensures stored { OnOk result (IsTrue is_stored) }
     ensures works { OnOk result (has_failed ≡ false) }
 {
@@ -249,7 +259,7 @@ fn open_export<B, D, H, T>(
     options: &ServeOptions,
 ) -> Result<(Export<B, D, H, T>, Vec<ClientPass<B>>, LastPass<B>), D>
 where
-    B: ExportName,
+    B: ServerName,
     D: Disk,
     H: ReadUnlocked,
     T: Trust,
@@ -263,6 +273,7 @@ where
     requires log { T.logs → IsLogOf B.opening B.image B.vouches B.trusted options.now.mode T.trusted T.mode T.image }
     ensures mode { IfOk result (λ made. made.0.mode ≡ options.now.mode) }
     ensures passes { IfOk result (λ made. vec_len made.1 ≡ options.now.workers + 1) }
+    ensures new { IfOk result (λ made. made.1.items ≡ new_client_passes device.keeper.count (options.now.workers + 1)) }
     ensures last { IfOk result (λ made. made.2 ≡ record { pass = new_pass device.keeper.count; roster = record { made = options.now.workers + 1; calls = [] } }) }
     ensures back { IfErr result (λ disk. disk ≡ device.keeper.disk) }
 {
@@ -285,12 +296,15 @@ fn serve_clients<B, D, H, T, R, G>(
     watch: G,
 ) -> (Result<(), Refusal>, LastPass<B>)
 where
-    B: ExportName + Send + Sync,
+    B: ServerName + Send + Sync,
     D: Disk + Send,
     H: ReadUnlocked + Send + Sync,
     T: Trust + Send + Sync,
     R: Threads + Wait + Clock + Sync,
     G: SyncPoints + Log + Copy + Send + Sync,
+    requires { offered export.now.geometry name.bytes.now (flush_waits export.now.mode) ≡ B.offer }
+    ensures served { ∥ AreServed B.offer B.geometry result.1.roster.calls ∥₁ }
+    ensures all { OnOk result.0 (HasAll result.1.roster) }
 {
     if let Some(limit) = options.limits.pending() {
         export.store_within(rt, limit);
@@ -307,11 +321,20 @@ where
     let served = run_threads(rt, &server);
     // A fault that another handle met is none of the keeper's device.
     let has_failed = export.is_stopped(rt);
-    let outcome = match served {
-        Ok(()) if has_failed => Err(Refusal::DeviceFault),
-        served => served,
-    };
-    (outcome, pool.into_last(export))
+    let (last, has_all) = pool.into_last(export);
+    (outcome_of(served, has_failed, has_all), last)
+}
+
+// Why a server couldn't begin, whether a call of the device has failed, and whether the log's list has all clients, which it always does:
+// each worker hands its pass back.
+fn outcome_of(served: Result<(), Refusal>, has_failed: bool, has_all: bool) -> Result<(), Refusal>
+    ensures { OnOk result (IsTrue has_all) }
+{
+    served?;
+    if has_failed || !has_all {
+        return Err(Refusal::DeviceFault);
+    }
+    Ok(())
 }
 
 // Workers beside a flusher, a checkpointer and a thread for each listener, until all have ended.
@@ -320,7 +343,7 @@ fn run_threads<B, D, H, T, R, G>(
     server: &Server<'_, B, D, H, T, R, G>,
 ) -> Result<(), Refusal>
 where
-    B: ExportName + Send + Sync,
+    B: ServerName + Send + Sync,
     D: Disk + Send,
     H: ReadUnlocked + Send + Sync,
     T: Trust + Send + Sync,
@@ -336,7 +359,7 @@ where
 
 impl<'a, B, D, H, T, R, G> Server<'a, B, D, H, T, R, G>
 where
-    B: ExportName + Send + Sync,
+    B: ServerName + Send + Sync,
     D: Disk + Send,
     H: ReadUnlocked + Send + Sync,
     T: Trust + Send + Sync,

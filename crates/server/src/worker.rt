@@ -1,17 +1,21 @@
-ghost use Rattle.std.specs.Prelude.{◌≡◌, ℕ, ◌-◌, true, nat_lt};
+ghost use Rattle.std.specs.Prelude.{◌≡◌, ◌≤◌, ℕ, ◌-◌, [], true, length, nat_lt, vec_len, IsTrue};
+ghost use Rattle.export.specs.Clients.{new_client_passes};
+ghost use Rattle.export_model.specs.Log.{flush_waits};
+ghost use Rattle.negotiation.specs.Answered.{offered};
+ghost use Rattle.server.specs.Sessions.{AreServed, HasAll};
 ghost use Rattle.server.specs.declared.worker.Sessions.TheVariants as Sessions;
 
 use crate::client::{Client, Input, Output, WatchedOutput};
 use crate::client_registry::{ClientRegistry, Session};
 use crate::log::{Event, Log, Traffic, Watched};
+use crate::name::ServerName;
 use crate::request_handler::RequestHandler;
+use crate::session_pass::{EndPass, NewPasses, RetiredSessions, SessionPass};
 use disk_model::Disk;
-use export::{
-    ClientPass, Export, ExportFigures, ExportName, LastPass, ReadUnlocked, RetiredPass, SyncPoints,
-};
+use export::{ClientPass, Export, ExportFigures, LastPass, ReadUnlocked, SyncPoints};
 use front_end::{OnFault, ServeOptions, WhenFull};
 use marks::Trust;
-use negotiation::{End, OfferedName, serve_session};
+use negotiation::{End, OfferedName};
 use std::alloc::Global;
 use std::cell::Cell;
 use std::io::ErrorKind;
@@ -46,20 +50,20 @@ impl Sessions {
 
 /// Where the workers of a server get their passes and their clients.
 #[derive(Drop)]
-pub(crate) struct WorkerPool<'a, B: ExportName> {
+pub(crate) struct WorkerPool<'a, B: ServerName> {
     alloc: Global,
     registry: &'a ClientRegistry,
-    passes: Mutex<Vec<ClientPass<B>>>,
+    passes: Mutex<NewPasses<B>>,
     // That of the end, which the others join.
-    last: Mutex<LastPass<B>>,
+    last: Mutex<EndPass<B>>,
     // That of whoever has all stored, which may wait, and so isn't the one that figures are read by.
-    storing: Mutex<Option<RetiredPass<B>>>,
+    storing: Mutex<Option<RetiredSessions<B>>>,
     sessions: Mutex<Sessions>,
     // The passes that weren't retired yet.
     unretired: Mutex<usize>,
 }
 
-impl<'a, B: ExportName> WorkerPool<'a, B> {
+impl<'a, B: ServerName> WorkerPool<'a, B> {
     /// For so many sessions; 0 for no end. The last of the passes is that of whoever has all stored.
     pub(crate) fn new<D: Disk, H: ReadUnlocked, T: Trust, R: Wait>(
         rt: &R,
@@ -69,10 +73,16 @@ impl<'a, B: ExportName> WorkerPool<'a, B> {
         passes: Vec<ClientPass<B>>,
         last: LastPass<B>,
         sessions: u64,
-    ) -> WorkerPool<'a, B> {
-        let mut passes = passes;
-        let storing = match passes.pop() {
-            Some(pass) => Some(export.leave(rt, pass)),
+    ) -> WorkerPool<'a, B>
+        requires few { vec_len passes ≤ 17 }
+        requires passes { passes.items ≡ new_client_passes B.opening (length passes.items) }
+        requires made { last.roster.made ≡ vec_len passes }
+        requires none { last.roster.calls ≡ [] }
+    {
+        let last = EndPass::new(last, passes.len());
+        let mut passes = NewPasses::new(passes);
+        let storing = match passes.take() {
+            Some(pass) => Some(pass.leave(rt, export)),
             None => None,
         };
         let sessions = if sessions == 0 {
@@ -93,9 +103,9 @@ impl<'a, B: ExportName> WorkerPool<'a, B> {
     }
 
     /// A pass that no worker has yet, and the slot for its clients.
-    pub(crate) fn take_pass<R: Wait>(&self, rt: &R) -> Option<(usize, ClientPass<B>)> {
+    pub(crate) fn take_pass<R: Wait>(&self, rt: &R) -> Option<(usize, SessionPass<B>)> {
         let mut passes = self.passes.lock(rt);
-        match passes.pop() {
+        match passes.take() {
             Some(pass) => Some((passes.len(), pass)),
             None => None,
         }
@@ -107,11 +117,11 @@ impl<'a, B: ExportName> WorkerPool<'a, B> {
         rt: &R,
         export: &Export<B, D, H, T>,
         slot: usize,
-        pass: ClientPass<B>,
+        pass: SessionPass<B>,
     ) -> bool {
         self.registry.retire(rt, slot);
-        let left = export.leave(rt, pass);
-        export.join(&mut self.last.lock(rt), left);
+        let left = pass.leave(rt, export);
+        self.last.lock(rt).join(export, left);
         let mut unretired = self.unretired.lock(rt);
         *unretired = unretired.saturating_sub(1);
         *unretired == 0
@@ -123,7 +133,7 @@ impl<'a, B: ExportName> WorkerPool<'a, B> {
         rt: &R,
         export: &Export<B, D, H, T>,
     ) -> ExportFigures {
-        export.figures(rt, &mut self.last.lock(rt))
+        self.last.lock(rt).figures(rt, export)
     }
 
     /// Where the clients arrive.
@@ -131,16 +141,19 @@ impl<'a, B: ExportName> WorkerPool<'a, B> {
         self.registry
     }
 
-    /// The pass of the end.
+    /// The pass of the end, and whether all others have joined it. What the log has of the clients that did comes from sessions.
     pub(crate) fn into_last<D: Disk, H: ReadUnlocked, T: Trust>(
         self,
         export: &Export<B, D, H, T>,
-    ) -> LastPass<B> {
+    ) -> (LastPass<B>, bool)
+        ensures served { ∥ AreServed B.offer B.geometry result.0.roster.calls ∥₁ }
+        ensures all { IsTrue result.1 → HasAll result.0.roster }
+    {
         let mut last = self.last.into_inner();
         if let Some(storing) = self.storing.into_inner() {
-            export.join(&mut last, storing);
+            last.join(export, storing);
         }
-        last
+        last.into_last()
     }
 
     // Whether another session may begin, which does.
@@ -172,7 +185,7 @@ pub(crate) enum Task {
 
 impl<
     'a,
-    B: ExportName,
+    B: ServerName,
     D: Disk,
     H: ReadUnlocked,
     T: Trust,
@@ -187,7 +200,7 @@ impl<
         let mut storing = self.pool.storing.lock(self.rt);
         let pass = storing.as_mut()?;
         let mut points = self.watch;
-        self.export.store_accepted(self.rt, &mut points, pass)
+        pass.store(self.rt, self.export, &mut points)
     }
 
     fn fail(&self) {
@@ -201,7 +214,7 @@ impl<
 
 /// What the threads of a server have in common.
 #[derive(Drop)]
-pub(crate) struct Server<'a, B: ExportName, D: Disk, H: ReadUnlocked, T: Trust, R, G> {
+pub(crate) struct Server<'a, B: ServerName, D: Disk, H: ReadUnlocked, T: Trust, R, G> {
     pub rt: &'a R,
     pub pool: &'a WorkerPool<'a, B>,
     pub export: &'a Export<B, D, H, T>,
@@ -209,11 +222,12 @@ pub(crate) struct Server<'a, B: ExportName, D: Disk, H: ReadUnlocked, T: Trust, 
     // The name that clients ask for the export by.
     pub name: OfferedName<'a>,
     pub watch: G,
+    pub ghost offers: { offered export.now.geometry name.bytes.now (flush_waits export.now.mode) ≡ B.offer },
 }
 
 impl<
     'a,
-    B: ExportName,
+    B: ServerName,
     D: Disk,
     H: ReadUnlocked,
     T: Trust,
@@ -293,14 +307,14 @@ impl<
     }
 
     /// Takes a pass for good. With the last one nobody asks for figures any more.
-    pub(crate) fn retire(&self, slot: usize, pass: ClientPass<B>) {
+    pub(crate) fn retire(&self, slot: usize, pass: SessionPass<B>) {
         if self.pool.retire(self.rt, self.export, slot, pass) {
             self.watch.end_answers();
         }
     }
 
     // Serves a client, and stores what is pending before the client is let go.
-    fn receive(&self, pass: &mut ClientPass<B>, session: &Session) {
+    fn receive(&self, pass: &mut SessionPass<B>, session: &Session) {
         self.watch.note(Event::Came {
             client: session.number,
             from: &session.client,
@@ -315,7 +329,7 @@ impl<
         };
         let end = self.serve_client(pass, session, &told);
         let mut points = self.watch;
-        let _settled = self.export.settle(self.rt, &mut points, pass);
+        pass.settle(self.rt, self.export, &mut points);
         self.watch.note(Event::Left {
             client: session.number,
             end,
@@ -326,7 +340,7 @@ impl<
     // Serves a client from the first byte to the last.
     fn serve_client(
         &self,
-        pass: &mut ClientPass<B>,
+        pass: &mut SessionPass<B>,
         session: &Session,
         told: &Told,
     ) -> Result<(), End> {
@@ -357,6 +371,6 @@ impl<
             client,
             registry: self.pool.registry,
         };
-        serve_session(self.pool.alloc, &mut input, &mut output, &handler, pass)
+        pass.serve(self.pool.alloc, &mut input, &mut output, &handler)
     }
 }

@@ -1,3 +1,4 @@
+use Rattle.std.proofs.lemmas.Grind.{merely}
 use Rattle.std.proofs.Common.{List, [], ◌+◌, length, subst, sym}
 use Rattle.export.specs.Left.{LeavesHistory}
 use Rattle.export.specs.Trusted.{IsTrusted, image_found}
@@ -12,7 +13,7 @@ returns-in-Err g c =
     (c.opened_device_law.ensures.history keeper image sure c.args.device.recovered) in record {
       left = λ sure. ([], left sure);
       stored = tt;
-      log = ([], record { made = 0; calls = [] }, unlogged keeper.geometry _ c.args.options.mode _ start (g.D.Disk.state c.into_disk.result) keeper.count image left, tt);
+      log = ([], record { made = 0; calls = [] }, unlogged keeper.geometry _ c.args.options.mode _ start (g.D.Disk.state c.into_disk.result) keeper.count image left, merely tt, tt);
       honest = λ sure. subst g.D.Disk.honest (sym c.into_disk.ensures) sure.sure;
       faults = tt;
     }

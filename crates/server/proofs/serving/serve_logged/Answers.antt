@@ -1,4 +1,5 @@
 use Rattle.std.specs.Prelude.{OnOk}
+use Rattle.std.proofs.lemmas.Grind.{merely}
 use Rattle.std.proofs.Common.{ℕ, List, [], ◌+◌, ◌∙◌, length, subst, sym}
 use Rattle.std.proofs.Props.{props}
 use Rattle.std.proofs.Math.Logic.{∥∥₁_elim}
@@ -6,8 +7,11 @@ use Rattle.device_image.specs.Stands.{StandsFor}
 use Rattle.disk_model.specs.Disk.{LeavesOnly}
 use Rattle.export.specs.Left.{KeepsLog, LeavesHistory}
 use Rattle.export.specs.Trusted.{IsTrusted, image_found}
+use Rattle.export_model.specs.Log.{flush_waits}
 use Rattle.export_model.specs.OneLog.{RosterState}
 use Rattle.image_model.specs.Change.{Change}
+use Rattle.negotiation.specs.Answered.{offered}
+use Rattle.server.specs.Sessions.{AreServed, HasAll}
 use Rattle.shared_store.specs.Orders.{IsRight}
 use Rattle.server.proofs.Served.{unlogged}
 use Rattle.server.proofs.serving.serve_logged.Goals as goal
@@ -20,7 +24,7 @@ returns g c =
     (c.opened_device_law.ensures.history keeper image sure c.args.device.recovered) in record {
       left = λ sure. ([], left sure);
       stored = tt;
-      log = λ logs. ([], record { made = 0; calls = [] }, unlogged keeper.geometry g.T.Trust.trusted g.T.Trust.mode _ start (g.D.Disk.state c.into_disk.result) keeper.count image left, tt);
+      log = λ logs. ([], record { made = 0; calls = [] }, unlogged keeper.geometry g.T.Trust.trusted g.T.Trust.mode _ start (g.D.Disk.state c.into_disk.result) keeper.count image left, merely tt, tt);
       honest = λ sure. subst g.D.Disk.honest (sym c.into_disk.ensures) sure.sure;
       faults = tt;
     }
@@ -61,7 +65,8 @@ pub returns-in-Ok-clause-log : goal.returns-in-Ok-clause-log
 returns-in-Ok-clause-log g c = λ logs.
     let keeper = c.args.device.keeper in let image = image_found g.D.Disk.state keeper in let start = g.D.Disk.state keeper.disk in let now = g.D.Disk.state c.serve_over.result.1 in
     subst (λ (n : ℕ). (history : List Change) × (roster : RosterState) × KeepsLog g.T.Trust.trusted g.T.Trust.mode (IsTrusted g.D.Disk.state g.D.Disk.honest keeper image) start now n image history roster
-    × OnOk c.serve_over.result.0 (IsTrusted g.D.Disk.state g.D.Disk.honest keeper image → LeavesHistory start now n image history (n + length history))) (c.in-Ok.ensures ∙ c.count.ensures) (c.serve_over.ensures.log logs)
+    × ∥ AreServed (offered keeper.geometry c.args.name.bytes.now (flush_waits c.args.options.mode)) keeper.geometry roster.calls ∥₁
+    × OnOk c.serve_over.result.0 (HasAll roster × (IsTrusted g.D.Disk.state g.D.Disk.honest keeper image → LeavesHistory start now n image history (n + length history)))) (c.in-Ok.ensures ∙ c.count.ensures) (c.serve_over.ensures.log logs)
 
 pub returns-in-Ok-clause-honest : goal.returns-in-Ok-clause-honest
 returns-in-Ok-clause-honest g c = c.serve_over.ensures.honest

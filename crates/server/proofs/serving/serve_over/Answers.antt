@@ -1,6 +1,7 @@
+use Rattle.std.proofs.lemmas.Grind.{merely}
 use Rattle.std.proofs.Common.{arith, length, subst, sym, ◌+◌, ◌∙◌, []}
 use Rattle.export.specs.Left.{LeavesHistory}
-use Rattle.server.proofs.Served.{from_start, on_ok, reaching, unlogged}
+use Rattle.server.proofs.Served.{both_ok, from_start, ok_of, on_ok, reaching, unlogged}
 use Rattle.server.proofs.serving.serve_over.Goals as goal
 
 pub returns-in-Ok-clause-left : goal.returns-in-Ok-clause-left
@@ -22,10 +23,11 @@ returns-in-Ok-clause-log g c = λ logs.
       pass.history,
       _,
       c.close-disk.ensures.log logs,
-      on_ok c.end_of.result c.end_of.ensures.stored (λ stored sure.
+      c.serve_clients-served.ensures.served,
+      both_ok _ _ c.end_of.result (ok_of _ c.end_of.result _ c.end_of.ensures.served c.serve_clients-served.ensures.all) (on_ok c.end_of.result c.end_of.ensures.stored (λ stored sure.
           let all = c.close-disk.ensures.stored.0 stored in
           reaching g.B.ImageName.start (g.D.Disk.state c.close-disk.result.0) g.B.BoardName.opening g.B.ImageName.image pass.history pass.durable (g.B.BoardName.opening + length pass.history)
-          (λ content is. let reaches = is.reaches in omega (arith, reaches, all)) (c.close-disk.ensures.left sure)),
+          (λ content is. let reaches = is.reaches in omega (arith, reaches, all)) (c.close-disk.ensures.left sure))),
     )
 
 pub returns-in-Ok-clause-honest : goal.returns-in-Ok-clause-honest
@@ -40,7 +42,7 @@ returns-in-Err g c =
     subst (λ (d : g.row.D.Denot). LeavesHistory g.B.ImageName.start (g.D.Disk.state d) g.B.BoardName.opening g.B.ImageName.image [] g.B.BoardName.opening) (sym c.in-Err.ensures.back) left in record {
       left = λ sure. ([], left sure);
       stored = tt;
-      log = λ logs. ([], record { made = 0; calls = [] }, unlogged keeper.geometry g.T.Trust.trusted g.T.Trust.mode g.B.ImageName.trusted g.B.ImageName.start _ g.B.BoardName.opening g.B.ImageName.image left, tt);
+      log = λ logs. ([], record { made = 0; calls = [] }, unlogged keeper.geometry g.T.Trust.trusted g.T.Trust.mode g.B.ImageName.trusted g.B.ImageName.start _ g.B.BoardName.opening g.B.ImageName.image left, merely tt, tt);
       honest = λ sure. subst g.D.Disk.honest (sym c.in-Err.ensures.back) (c.requires.trusted sure).sure;
       faults = tt;
     }
