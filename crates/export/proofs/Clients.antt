@@ -1,8 +1,7 @@
 -- What a client may be answered once its request was served.
 use Rattle.std.specs.Prelude.{MatchBool}
-use Rattle.std.proofs.Common.{◌≡◌, ◌≢◌, ◌⊎◌, ◌∙◌, ◌+◌, ◌<◌, ◌==◌, ◌||◌, inl, inr, ℕ, Bool, false, true, nat_lt, List, ap, refl, sym, subst, arith, Result, Ok, Err}
+use Rattle.std.proofs.Common.{◌≡◌, ◌≢◌, ◌⊎◌, ◌∙◌, ◌+◌, inl, inr, ℕ, Bool, false, true, nat_lt, List, ap, refl, sym, subst, arith, Result, Ok, Err}
 use Rattle.std.proofs.lemmas.Bool.{cases_Bool, lt-ltb}
-use Rattle.std.proofs.lemmas.Bool.Decides.{nat_tests}
 use Rattle.alloc_map.specs.Codes.{state_at}
 use Rattle.device_image.specs.Keeper.{KeeperState}
 use Rattle.disk_model.specs.Disk.{State}
@@ -32,8 +31,8 @@ use Rattle.shared_store.specs.Answers.{ServesImage, TellsImage}
 use Rattle.shared_store.specs.Logs.{IsAt, IsLogOf}
 use Rattle.shared_store.specs.Orders.{SpanRead, Trusting}
 use Rattle.shared_store.specs.laws.Trust.{anyway, logged}
-use Rattle.export_model.specs.Answers.{IsReadOf, MayAnswer}
-use Rattle.export_model.specs.Log.{flush_waits, is_flush, is_read_type, is_write, waits_for_store}
+use Rattle.export_model.specs.Answers.{MayAnswer}
+use Rattle.export_model.specs.Log.{flush_waits, is_flush, is_read_type, waits_for_store}
 use Rattle.export_model.specs.Serve.{state_after}
 use Rattle.export_model.specs.Shown.{shown_by}
 use Rattle.export_model.specs.declared.action.Action.{Action}
@@ -209,7 +208,7 @@ module _ (logs trusted : Type 0) (opening : ℕ) (first image : Image) (vouches 
       quiet_for request.head.cookie (Refused is.errno) result (refused_undone is.errno) (ap (λ (p : PassState). p.client) same) is.answer (unserved_fits geometry flags request result is)
       (anyway opening first vouches sure (unserved_tells geometry flags request result is (apply_all next.history first) request.head))
 
--- who has waited may be answered so
+-- a client that has waited may be answered so
 pub waited_may : (trusted : Type 0) (image : Image) (number : ℕ) (old new : PassState) (answer : Answer) → old.client.state ≡ Waiting number → IsWaitedFor number old new answer
     → MayAnswer trusted image new.durable new.history new.client.state answer
 waited_may trusted image number old new answer at waited =

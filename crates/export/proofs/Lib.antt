@@ -7,7 +7,7 @@ mod Found
 mod UnlockedReadIsServed
 mod Lists
 mod Opened
-mod Same
+mod RequestIsServed
 mod AnswersSurviveCrash
 mod Submits
 mod ServedIsShown

@@ -1,5 +1,5 @@
 -- What is said of a pass whose client has just sent a request is said of the pass before that, and of the pass once the answer is logged.
-use Rattle.std.proofs.Common.{◌≡◌, ◌≢◌, ◌⊎◌, ◌∙◌, ◌≤◌, ◌+◌, inl, inr, ℕ, true, Some, List, [], ◌∷◌, ◌++◌, append_assoc, ap, refl, sym, subst, arith}
+use Rattle.std.proofs.Common.{◌≡◌, ◌⊎◌, ◌∙◌, ◌≤◌, ◌+◌, inl, inr, ℕ, true, Some, [], ◌∷◌, ◌++◌, append_assoc, ap, subst, arith}
 use mathlib.Core.List.{IsPrefix}
 use Rattle.image_model.specs.Image.{Image}
 use Rattle.marks.specs.Client.{answering, sending}
@@ -10,11 +10,9 @@ use Rattle.nbd_wire.specs.Request.{Message}
 use Rattle.nbd_wire.specs.declared.message.Answer.{Answer}
 use Rattle.export_model.specs.Log.{edit_asked, is_write}
 use Rattle.image_model.specs.Edit.{becomes}
-use Rattle.export_model.specs.declared.connection.Connection.{Connection}
-use Rattle.export_model.specs.declared.event.Event.{Event}
 use Rattle.export_model.specs.declared.event.Event.TheVariants.{Answered, Sent}
 use Rattle.export_model.specs.declared.step.Mode.{Mode}
-use Rattle.export.specs.Submits.{IsAccepted, IsCovered, IsSubmitted}
+use Rattle.export.specs.Submits.{IsAccepted, IsSubmitted}
 
 module _ (opening : ℕ) (first : Image) (Sure : Type 0 → Type 0) (request : Message) (kept : Mode) (old begun mid : PassState) (client : Client)
     (more : known old ≤ begun.accepted) (seen : IsPrefix old.history begun.history) (began : begun ≡ record old { history = begun.history; accepted = begun.accepted; client = begun.client }) where

@@ -63,7 +63,7 @@ leaves opening number (States runs) pass next undone is = is
 pub no_less : (number : ℕ) → nat_lt number number ≡ false
 no_less number = grind (arith, nat_tests)
 
--- who has a command accepted knows what it knew, and that
+-- a pass for which a command was accepted knows what it knew before, and the command
 known_on : (opening : ℕ) (first : Image) (Sure : Type 0 → Type 0) (request : Message) (number : ℕ) (old new : PassState) → IsAccepted opening first Sure request number old new → IsPrefix old.history new.history
 known_on opening first Sure request number old new is =
     let own : List Change = becomes (edit_asked request) is.image ∷ [] in

@@ -1,5 +1,5 @@
 -- what is trusted of a device that is served
-use Rattle.std.specs.Prelude.{ℕ, ◌≡◌, Option, Some, []}
+use Rattle.std.specs.Prelude.{◌≡◌, Option, Some, []}
 use Rattle.device_image.specs.Holds.{Holds}
 use Rattle.device_image.specs.Keeper.{KeeperState}
 use Rattle.device_image.specs.Stands.{stored_image}

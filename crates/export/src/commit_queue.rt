@@ -3,18 +3,16 @@ ghost use Rattle.std.specs.Prelude.{ℕ, List, ◌≡◌, ◌≢◌, ◌+◌, �
 ghost use mathlib.Core.List.{IsPrefix};
 ghost use Rattle.disk_model.specs.Disk.{MayLeave};
 ghost use Rattle.export.specs.Noted.{base_of};
-ghost use Rattle.export.specs.inner.Submits.{FitsServed, IsClientFor, IsServedFor, IsShownFor, serves_image};
+ghost use Rattle.export.specs.inner.Serving.{IsServedAs, MayServe};
+ghost use Rattle.export.specs.inner.Submits.{IsShownFor, serves_image};
 ghost use Rattle.export_model.specs.Log.{is_write};
 ghost use Rattle.export_model.specs.OneLog.{IsOneLog};
 ghost use Rattle.image_model.specs.Edit.{blocks_met};
-ghost use Rattle.image_model.specs.Image.{apply_all};
 ghost use Rattle.order_book.specs.Order.{with_clean};
 ghost use Rattle.request_core.specs.Reading.{IsPlanned, IsReadOverServed};
 ghost use Rattle.regions.specs.Layout.{block_at};
 ghost use Rattle.shared_store.specs.Keepers.{HasLeft};
-ghost use Rattle.shared_store.specs.Answers.{ServesImage};
-ghost use Rattle.shared_store.specs.Logs.{IsAt, IsLogOf};
-ghost use Rattle.shared_store.specs.Orders.{SpanRead, Trusting};
+ghost use Rattle.shared_store.specs.Orders.{SpanRead};
 ghost use Rattle.shared_store.specs.Parts.{StandsWithin};
 
 use crate::edges::MissingEdges;
@@ -196,17 +194,11 @@ impl<B: ExportName> CommitQueue<B> {
         pass: &mut Pass<B>,
         terms: Terms,
     ) -> Result<Served, NeedsKeeper>
-        requires kind { request.head.kind ≢ 2 }
-        requires geometry { terms.geometry ≡ B.geometry }
-        requires log { T.logs → IsLogOf B.opening B.image B.vouches B.trusted terms.mode T.trusted T.mode T.image }
-        requires asked { T.logs → IsAt request pass.old.client }
-        ensures served { IfOk result (λ served. IsServedFor B.opening B.image (Trusting B.opening B.image B.vouches B.trusted) request terms.mode pass.old pass.new served) }
-        ensures client { IfOk result (λ served. IsClientFor T.logs T.trusted T.image pass.old pass.new served) }
-        ensures fits { IfOk result (λ served. FitsServed terms.geometry terms.flags request served) }
+        requires { MayServe T.logs T.trusted T.mode T.image B.opening B.image B.vouches B.trusted B.geometry request terms pass.old.client }
+        ensures served { IfOk result (λ served. IsServedAs T.logs T.trusted T.image B.opening B.image B.vouches B.trusted request terms pass.old pass.new served) }
         ensures handed_back { IfErr result (λ back. back.0 ≡ request) }
         ensures unchanged { OnErr result (pass.new ≡ pass.old) }
         ensures settled { self.new.settled ≡ self.old.settled }
-        ensures tells { IfOk result (λ served. Trusting B.opening B.image B.vouches B.trusted (ServesImage (apply_all pass.new.history B.image) request.head served)) }
 
         // Once a command was accepted, no more bytes are pending than may be, its own included.
         ensures bounded { self.old.order.mark < self.new.order.mark → sum self.new.order.bodies ≤ self.old.most_pending }
@@ -256,18 +248,13 @@ impl<B: ExportName> CommitQueue<B> {
         pass: &mut Pass<B>,
         terms: &Terms,
     ) -> Result<Served, Vec<u8>>
+        requires may { MayServe T.logs T.trusted T.mode T.image B.opening B.image B.vouches B.trusted B.geometry request.now terms.now pass.old.client }
         requires planned { IsPlanned request.now.head terms.now.geometry terms.now.flags planned.span }
-        requires geometry { terms.now.geometry ≡ B.geometry }
         requires vouched { (read : SpanRead) → H.vouches handle.now read → ∥ B.vouches read ∥₁ }
         requires given { H.gives handle.now (base_of planned.settled) (block_at terms.now.geometry planned.span.first)
             (slice_range bytes.items (4096 * (planned.span.first - request.now.head.offset / 4096)) (4096 * (planned.span.end - request.now.head.offset / 4096))) }
         requires size { vec_len bytes ≡ 4096 * blocks_met request.now.head.offset request.now.head.length }
-        requires log { T.logs → IsLogOf B.opening B.image B.vouches B.trusted terms.now.mode T.trusted T.mode T.image }
-        requires asked { T.logs → IsAt request.now pass.old.client }
-        ensures served { IfOk result (λ served. IsServedFor B.opening B.image (Trusting B.opening B.image B.vouches B.trusted) request.now terms.now.mode pass.old pass.new served) }
-        ensures client { IfOk result (λ served. IsClientFor T.logs T.trusted T.image pass.old pass.new served) }
-        ensures tells { IfOk result (λ served. Trusting B.opening B.image B.vouches B.trusted (ServesImage (apply_all pass.new.history B.image) request.now.head served)) }
-        ensures fits { IfOk result (λ served. FitsServed terms.now.geometry terms.now.flags request.now served) }
+        ensures served { IfOk result (λ served. IsServedAs T.logs T.trusted T.image B.opening B.image B.vouches B.trusted request.now terms.now pass.old pass.new served) }
         ensures size { IfErr result (λ back. vec_len back ≡ 4096 * blocks_met request.now.head.offset request.now.head.length) }
         ensures settled { self.new.settled ≡ self.old.settled }
         ensures over { IfOk result (λ served. IsReadOverServed request.now.head planned.span bytes.items self.old.order self.new.order served) }
@@ -314,18 +301,12 @@ impl<B: ExportName> CommitQueue<B> {
         pass: &mut Pass<B>,
         terms: Terms,
     ) -> Served
-        requires kind { request.head.kind ≢ 2 }
-        requires geometry { terms.geometry ≡ B.geometry }
+        requires may { MayServe T.logs T.trusted T.mode T.image B.opening B.image B.vouches B.trusted B.geometry request terms pass.old.client }
         requires device { keeper.old.keeper.geometry ≡ B.geometry }
-        requires log { T.logs → IsLogOf B.opening B.image B.vouches B.trusted terms.mode T.trusted T.mode T.image }
-        requires asked { T.logs → IsAt request pass.old.client }
-        ensures served { IsServedFor B.opening B.image (Trusting B.opening B.image B.vouches B.trusted) request terms.mode pass.old pass.new result }
-        ensures client { IsClientFor T.logs T.trusted T.image pass.old pass.new result }
-        ensures fits { FitsServed terms.geometry terms.flags request result }
+        ensures served { IsServedAs T.logs T.trusted T.image B.opening B.image B.vouches B.trusted request terms pass.old pass.new result }
         ensures geometry { keeper.new.keeper.geometry ≡ keeper.old.keeper.geometry }
         ensures count { keeper.new.keeper.count ≡ keeper.old.keeper.count }
         ensures settled { self.new.settled ≡ self.old.settled }
-        ensures tells { Trusting B.opening B.image B.vouches B.trusted (ServesImage (apply_all pass.new.history B.image) request.head result) }
         ensures bounded { self.old.order.mark < self.new.order.mark → sum self.new.order.bodies ≤ self.old.most_pending }
         ensures limit { self.new.most_pending ≡ self.old.most_pending }
     {

@@ -1,14 +1,10 @@
 //! The state under the keeper lock.
-ghost use Rattle.std.specs.Prelude.{◌≡◌, ◌≢◌, ◌+◌, ◌<◌, ℕ, List, length};
+ghost use Rattle.std.specs.Prelude.{◌≡◌, ◌+◌, ◌<◌, ℕ, List, length};
 ghost use mathlib.Core.List.{IsPrefix};
 ghost use Rattle.disk_model.specs.Disk.{MayLeave};
-ghost use Rattle.export.specs.inner.Submits.{FitsServed, IsClientFor, IsServedFor};
-ghost use Rattle.image_model.specs.Image.{apply_all};
+ghost use Rattle.export.specs.inner.Serving.{IsServedAs, MayServe};
 ghost use Rattle.order_book.specs.Order.{with_durable};
 ghost use Rattle.shared_store.specs.Keepers.{HasLeft};
-ghost use Rattle.shared_store.specs.Answers.{ServesImage};
-ghost use Rattle.shared_store.specs.Logs.{IsAt, IsLogOf};
-ghost use Rattle.shared_store.specs.Orders.{Trusting};
 ghost use Rattle.shared_store.specs.Parts.{StandsWithin};
 
 use crate::commit_queue::CommitQueue;
@@ -231,14 +227,8 @@ impl<B: ExportName, D: Disk> StorageEngine<B, D> {
         pass: &mut Pass<B>,
         terms: Terms,
     ) -> Served
-        requires kind { request.head.kind ≢ 2 }
-        requires geometry { terms.geometry ≡ B.geometry }
-        requires log { T.logs → IsLogOf B.opening B.image B.vouches B.trusted terms.mode T.trusted T.mode T.image }
-        requires asked { T.logs → IsAt request pass.old.client }
-        ensures served { IsServedFor B.opening B.image (Trusting B.opening B.image B.vouches B.trusted) request terms.mode pass.old pass.new result }
-        ensures client { IsClientFor T.logs T.trusted T.image pass.old pass.new result }
-        ensures fits { FitsServed terms.geometry terms.flags request result }
-        ensures tells { Trusting B.opening B.image B.vouches B.trusted (ServesImage (apply_all pass.new.history B.image) request.head result) }
+        requires { MayServe T.logs T.trusted T.mode T.image B.opening B.image B.vouches B.trusted B.geometry request terms pass.old.client }
+        ensures { IsServedAs T.logs T.trusted T.image B.opening B.image B.vouches B.trusted request terms pass.old pass.new result }
     {
         queue.serve_with(alloc, request, &mut self.shared, board, pass, terms)
     }

@@ -2,9 +2,8 @@ ghost use Rattle.std.specs.Prelude.{◌≡◌, ◌≢◌, ◌⊎◌, ◌≤◌, 
 ghost use mathlib.Core.List.{IsPrefix};
 ghost use Rattle.export.specs.Noted.{base_of};
 ghost use Rattle.export.specs.Submits.{IsCovered, IsJudged, IsSubmitted};
-ghost use Rattle.export.specs.inner.Submits.{FitsServed, IsClientFor, IsServedFor, IsUnserved, IsWaitedFor};
-ghost use Rattle.export.specs.inner.Outcomes.{ComesToImage, FitsOutcome, IsClientAt, IsOutcomeFor};
-ghost use Rattle.export_model.specs.Answers.{MayAnswer};
+ghost use Rattle.export.specs.inner.Serving.{IsServedAs, MayServe};
+ghost use Rattle.export.specs.inner.Submits.{IsUnserved, IsWaitedFor};
 ghost use Rattle.export_model.specs.declared.event.Event.TheVariants as Event;
 ghost use Rattle.image_model.specs.Image.{apply_all};
 ghost use Rattle.marks.specs.Known.{known};
@@ -12,8 +11,8 @@ ghost use Rattle.nbd_wire.specs.Reply.{IsAnswerTo};
 ghost use Rattle.nbd_wire.specs.declared.message.Answer.TheVariants as Answer;
 ghost use Rattle.regions.specs.Layout.{block_at};
 ghost use Rattle.request_core.specs.Reading.{IsPlanned};
-ghost use Rattle.shared_store.specs.Answers.{ServesImage, TellsImage};
-ghost use Rattle.shared_store.specs.Logs.{IsAt, IsLogOf};
+ghost use Rattle.request_core.specs.Serving.{ready_for};
+ghost use Rattle.shared_store.specs.Answers.{TellsImage};
 ghost use Rattle.export_model.specs.Verdict.{verdict};
 ghost use Rattle.shared_store.specs.Orders.{Trusting};
 
@@ -41,6 +40,8 @@ const MOST_TRIES: u32 = 2;
 impl<B: ExportName, D: Disk, H: ReadUnlocked, T: Trust> Export<B, D, H, T> {
     /// The answer to a FLUSH sent now: Done if all that was accepted by now is durable, and otherwise nothing. It waits for nobody and
     /// takes no lock.
+    ///
+    /// Only tests call it, because `submit` waits. Its contract shows what a FLUSH takes: two reads of the board.
     pub fn flush_now(&self, pass: &mut ClientPass<B>) -> Option<Answer>
         ensures done { IfSome result (λ answer. (answer ≡ Answer.Done) × (known pass.old ≤ pass.new.accepted) × (pass.new.accepted ≤ pass.new.durable)) }
         ensures none { IfNone result (pass.new.durable < pass.new.accepted) }
@@ -122,7 +123,7 @@ impl<B: ExportName, D: Disk, H: ReadUnlocked, T: Trust> Export<B, D, H, T> {
         Reply { cookie, answer }
     }
 
-    // Serves a request that its client has sent, to the answer that it may be given.
+    // Serves a request that its client has sent, to the answer that it may be given: again each time that there was no room for it.
     fn serve_to_end<R: Wait + Clock, G: SyncPoints>(
         &self,
         rt: &R,
@@ -131,21 +132,18 @@ impl<B: ExportName, D: Disk, H: ReadUnlocked, T: Trust> Export<B, D, H, T> {
         request: Request,
         terms: Terms,
     ) -> Answer
-        requires kind { request.head.kind ≢ 2 }
-        requires geometry { terms.geometry ≡ B.geometry }
-        requires log { T.logs → IsLogOf B.opening B.image B.vouches B.trusted terms.mode T.trusted T.mode T.image }
-        requires asked { T.logs → IsAt request pass.old.client }
-        ensures submitted { IsSubmitted B.opening B.image (Trusting B.opening B.image B.vouches B.trusted) request terms.mode pass.old pass.new result }
-        ensures kind { IsAnswerTo terms.flags request.head.kind result }
-        ensures judged { IsJudged (verdict request.head terms.geometry terms.flags) request result }
-        ensures tells { Trusting B.opening B.image B.vouches B.trusted (TellsImage (apply_all pass.new.history B.image) request.head result) }
-        ensures client { pass.new.client ≡ record pass.old.client { state = pass.new.client.state } }
-        ensures may { T.logs → MayAnswer T.trusted T.image pass.new.durable pass.new.history pass.new.client.state result }
+        requires { MayServe T.logs T.trusted T.mode T.image B.opening B.image B.vouches B.trusted B.geometry request terms pass.old.client }
+        ensures { IsServedAs T.logs T.trusted T.image B.opening B.image B.vouches B.trusted request terms pass.old pass.new (ready_for request.head.cookie result) }
     {
-        match self.serve(rt, pass, request, terms) {
-            Outcome::Answered(answer) => answer,
-            Outcome::Waits(number) => self.wait_for(rt, points, pass, number),
+        let mut request = request;
+        for _ in rt.forever() {
+            match self.serve_once(rt, pass, request, terms) {
+                Served::Ready(reply) => return reply.answer,
+                Served::Wait(number) => return self.wait_for(rt, points, pass, number),
+                Served::NoRoom(back) => request = back,
+            }
         }
+        unreachable!()
     }
 
     /// Takes back a reply that isn't needed any more, and uses its room for another READ.
@@ -163,29 +161,6 @@ impl<B: ExportName, D: Disk, H: ReadUnlocked, T: Trust> Export<B, D, H, T> {
         }
     }
 
-    // Serves a request once there is room for its command.
-    fn serve<R: Wait>(&self, rt: &R, pass: &mut Pass<B>, request: Request, terms: Terms) -> Outcome
-        requires kind { request.head.kind ≢ 2 }
-        requires geometry { terms.geometry ≡ B.geometry }
-        requires log { T.logs → IsLogOf B.opening B.image B.vouches B.trusted terms.mode T.trusted T.mode T.image }
-        requires asked { T.logs → IsAt request pass.old.client }
-        ensures outcome { IsOutcomeFor B.opening B.image (Trusting B.opening B.image B.vouches B.trusted) request terms.mode pass.old pass.new result }
-        ensures client { IsClientAt T.logs T.trusted T.image pass.old pass.new result }
-        ensures fits { FitsOutcome terms.geometry terms.flags request result }
-        ensures tells { Trusting B.opening B.image B.vouches B.trusted (ComesToImage (apply_all pass.new.history B.image) request.head result) }
-    {
-        let mut request = request;
-        for _ in rt.forever() {
-            match self.serve_once(rt, pass, request, terms) {
-                Served::Ready(reply) => return Outcome::Answered(reply.answer),
-                Served::Wait(number) => return Outcome::Waits(number),
-                // There was no room for it; so it is no READ, and is served anew: with no room it doesn't need the keeper.
-                Served::NoRoom(back) => request = back,
-            }
-        }
-        unreachable!()
-    }
-
     // Serves a request under the order's lock alone, if it can. If there is no room for it, it waits for some.
     fn serve_once<R: Wait>(
         &self,
@@ -194,14 +169,8 @@ impl<B: ExportName, D: Disk, H: ReadUnlocked, T: Trust> Export<B, D, H, T> {
         request: Request,
         terms: Terms,
     ) -> Served
-        requires kind { request.head.kind ≢ 2 }
-        requires geometry { terms.geometry ≡ B.geometry }
-        requires log { T.logs → IsLogOf B.opening B.image B.vouches B.trusted terms.mode T.trusted T.mode T.image }
-        requires asked { T.logs → IsAt request pass.old.client }
-        ensures served { IsServedFor B.opening B.image (Trusting B.opening B.image B.vouches B.trusted) request terms.mode pass.old pass.new result }
-        ensures client { IsClientFor T.logs T.trusted T.image pass.old pass.new result }
-        ensures fits { FitsServed terms.geometry terms.flags request result }
-        ensures tells { Trusting B.opening B.image B.vouches B.trusted (ServesImage (apply_all pass.new.history B.image) request.head result) }
+        requires { MayServe T.logs T.trusted T.mode T.image B.opening B.image B.vouches B.trusted B.geometry request terms pass.old.client }
+        ensures { IsServedAs T.logs T.trusted T.image B.opening B.image B.vouches B.trusted request terms pass.old pass.new result }
     {
         let mut queue = self.queue.lock(rt);
         let served = match queue.serve(self.alloc, request, &self.board, pass, terms) {
@@ -249,15 +218,9 @@ impl<B: ExportName, D: Disk, H: ReadUnlocked, T: Trust> Export<B, D, H, T> {
         edges: MissingEdges,
         terms: Terms,
     ) -> Served
-        requires kind { request.head.kind ≢ 2 }
-        requires geometry { terms.geometry ≡ B.geometry }
+        requires may { MayServe T.logs T.trusted T.mode T.image B.opening B.image B.vouches B.trusted B.geometry request terms pass.old.client }
         requires planned { IfSome planned (λ planned. IsPlanned request.head terms.geometry terms.flags planned.span) }
-        requires log { T.logs → IsLogOf B.opening B.image B.vouches B.trusted terms.mode T.trusted T.mode T.image }
-        requires asked { T.logs → IsAt request pass.old.client }
-        ensures served { IsServedFor B.opening B.image (Trusting B.opening B.image B.vouches B.trusted) request terms.mode pass.old pass.new result }
-        ensures client { IsClientFor T.logs T.trusted T.image pass.old pass.new result }
-        ensures fits { FitsServed terms.geometry terms.flags request result }
-        ensures tells { Trusting B.opening B.image B.vouches B.trusted (ServesImage (apply_all pass.new.history B.image) request.head result) }
+        ensures { IsServedAs T.logs T.trusted T.image B.opening B.image B.vouches B.trusted request terms pass.old pass.new result }
     {
         match self.serve_unlocked(rt, pass, &request, planned, &terms) {
             Some(served) => served,
@@ -304,14 +267,9 @@ impl<B: ExportName, D: Disk, H: ReadUnlocked, T: Trust> Export<B, D, H, T> {
         planned: Option<Planned>,
         terms: &Terms,
     ) -> Option<Served>
-        requires geometry { terms.now.geometry ≡ B.geometry }
+        requires may { MayServe T.logs T.trusted T.mode T.image B.opening B.image B.vouches B.trusted B.geometry request.now terms.now pass.old.client }
         requires planned { IfSome planned (λ planned. IsPlanned request.now.head terms.now.geometry terms.now.flags planned.span) }
-        requires log { T.logs → IsLogOf B.opening B.image B.vouches B.trusted terms.now.mode T.trusted T.mode T.image }
-        requires asked { T.logs → IsAt request.now pass.old.client }
-        ensures served { IfSome result (λ served. IsServedFor B.opening B.image (Trusting B.opening B.image B.vouches B.trusted) request.now terms.now.mode pass.old pass.new served) }
-        ensures client { IfSome result (λ served. IsClientFor T.logs T.trusted T.image pass.old pass.new served) }
-        ensures fits { IfSome result (λ served. FitsServed terms.now.geometry terms.now.flags request.now served) }
-        ensures tells { IfSome result (λ served. Trusting B.opening B.image B.vouches B.trusted (ServesImage (apply_all pass.new.history B.image) request.now.head served)) }
+        ensures served { IfSome result (λ served. IsServedAs T.logs T.trusted T.image B.opening B.image B.vouches B.trusted request.now terms.now pass.old pass.new served) }
         ensures unchanged { IfNone result (pass.new ≡ pass.old) }
     {
         let Some(mut planned) = planned else {
@@ -399,14 +357,8 @@ impl<B: ExportName, D: Disk, H: ReadUnlocked, T: Trust> Export<B, D, H, T> {
         request: Request,
         terms: Terms,
     ) -> Served
-        requires kind { request.head.kind ≢ 2 }
-        requires geometry { terms.geometry ≡ B.geometry }
-        requires log { T.logs → IsLogOf B.opening B.image B.vouches B.trusted terms.mode T.trusted T.mode T.image }
-        requires asked { T.logs → IsAt request pass.old.client }
-        ensures served { IsServedFor B.opening B.image (Trusting B.opening B.image B.vouches B.trusted) request terms.mode pass.old pass.new result }
-        ensures client { IsClientFor T.logs T.trusted T.image pass.old pass.new result }
-        ensures fits { FitsServed terms.geometry terms.flags request result }
-        ensures tells { Trusting B.opening B.image B.vouches B.trusted (ServesImage (apply_all pass.new.history B.image) request.head result) }
+        requires { MayServe T.logs T.trusted T.mode T.image B.opening B.image B.vouches B.trusted B.geometry request terms pass.old.client }
+        ensures { IsServedAs T.logs T.trusted T.image B.opening B.image B.vouches B.trusted request terms pass.old pass.new result }
     {
         let turn = self.signals.turn.lock(rt);
         let mut engine = self.engine.lock(rt);
@@ -507,13 +459,4 @@ fn refuse(request: &Request, terms: &Terms, errno: Errno) -> Served
         cookie: head.cookie,
         answer: Answer::Refused(errno),
     })
-}
-
-// What a request comes to once there was room for its command.
-#[derive(Drop)]
-pub(crate) enum Outcome {
-    // It is answered.
-    Answered(Answer),
-    // It is answered once this number is durable.
-    Waits(u64),
 }

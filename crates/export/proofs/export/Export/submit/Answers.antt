@@ -1,15 +1,12 @@
-use Rattle.std.proofs.Common.{◌≡◌, ◌∙◌, ◌++◌, ◌∷◌, [], List, ap, refl, subst, sym}
+use Rattle.std.proofs.Common.{◌≡◌, ◌≢◌, ◌∙◌, ◌++◌, ◌∷◌, [], ap, subst, sym}
 use Rattle.export.proofs.PassAcrossRequest.{begun_for, called, called_by}
-use Rattle.export.specs.Clients.{IsIdle}
 use Rattle.export.specs.Submits.{IsJudged, IsSubmitted}
 use Rattle.export_model.specs.Verdict.{verdict}
-use Rattle.export_model.specs.declared.connection.Connection.{Connection}
 use Rattle.export_model.specs.declared.connection.Connection.TheVariants.{Requested}
-use Rattle.export_model.specs.declared.event.Event.{Event}
 use Rattle.export_model.specs.declared.event.Event.TheVariants.{Answered, Sent}
 use Rattle.export_model.specs.declared.step.Mode.{Mode}
 use Rattle.image_model.specs.Image.{apply_all}
-use Rattle.marks.specs.Client.{answering, sending}
+use Rattle.marks.specs.Client.{answering}
 use Rattle.marks.specs.Known.{PassState}
 use Rattle.marks.specs.declared.view.Client.{Client}
 use Rattle.nbd_wire.specs.Reply.{IsAnswerTo}
@@ -26,28 +23,29 @@ begin-request-requires-clause-speaks g c = c.pass.invariant.speaks
 pub begin-request-requires-clause-idle : goal.begin-request-requires-clause-idle
 begin-request-requires-clause-idle g c = c.pass.invariant.idle
 
-pub serve_to_end-answer-requires-clause-log : goal.serve_to_end-answer-requires-clause-log
-serve_to_end-answer-requires-clause-log g c = λ logs.
-    subst (λ (m : Mode). IsLogOf g.B.BoardName.opening g.B.ImageName.image g.B.ImageName.vouches g.B.ImageName.trusted m g.T.Trust.trusted g.T.Trust.mode g.T.Trust.image) (sym c.mode.ensures.mode) (c.mode.ensures.log logs)
-
-pub serve_to_end-answer-requires-clause-asked : goal.serve_to_end-answer-requires-clause-asked
-serve_to_end-answer-requires-clause-asked g c = λ logs.
-    let client = ap (λ (p : PassState). p.client) c.begin-request.ensures.pass in record {
-      speaks = ap (λ (one : Client). one.speaks) client ∙ c.pass.invariant.speaks;
-      asks = ap (λ (one : Client). one.state) client ∙ ap Requested (sym c.begin-request.ensures.same);
-    }
+pub serve_to_end-answer-requires : goal.serve_to_end-answer-requires
+serve_to_end-answer-requires g c = record {
+  kind = subst (λ (r : Message). r.head.kind ≢ 2) (sym c.begin-request.ensures.same) c.requires;
+  geometry = c.args.self.now.sized;
+  log = λ logs. subst (λ (m : Mode). IsLogOf g.B.BoardName.opening g.B.ImageName.image g.B.ImageName.vouches g.B.ImageName.trusted m g.T.Trust.trusted g.T.Trust.mode g.T.Trust.image) (sym c.mode.ensures.mode) (c.mode.ensures.log logs);
+  asked = λ logs.
+      let client = ap (λ (p : PassState). p.client) c.begin-request.ensures.pass in record {
+        speaks = ap (λ (one : Client). one.speaks) client ∙ c.pass.invariant.speaks;
+        asks = ap (λ (one : Client). one.state) client ∙ ap Requested (sym c.begin-request.ensures.same);
+      };
+}
 
 pub answer-answer-requires-clause-speaks : goal.answer-answer-requires-clause-speaks
 answer-answer-requires-clause-speaks g c =
-    ap (λ (one : Client). one.speaks) c.serve_to_end-answer.ensures.client ∙ (ap (λ (p : PassState). p.client.speaks) c.begin-request.ensures.pass ∙ c.pass.invariant.speaks)
+    ap (λ (one : Client). one.speaks) c.serve_to_end-answer.ensures.client.0 ∙ (ap (λ (p : PassState). p.client.speaks) c.begin-request.ensures.pass ∙ c.pass.invariant.speaks)
 
 pub answer-answer-requires-clause-may : goal.answer-answer-requires-clause-may
-answer-answer-requires-clause-may g c = c.serve_to_end-answer.ensures.may
+answer-answer-requires-clause-may g c = c.serve_to_end-answer.ensures.client.1
 
 pub invariant_of-pass : goal.invariant_of-pass
 invariant_of-pass g c =
     let last = ap (λ (p : PassState). p.client) c.answer-answer.ensures.pass in record {
-      speaks = ap (λ (one : Client). one.speaks) last ∙ (ap (λ (one : Client). one.speaks) c.serve_to_end-answer.ensures.client ∙ (ap (λ (p : PassState). p.client.speaks) c.begin-request.ensures.pass ∙ c.pass.invariant.speaks));
+      speaks = ap (λ (one : Client). one.speaks) last ∙ (ap (λ (one : Client). one.speaks) c.serve_to_end-answer.ensures.client.0 ∙ (ap (λ (p : PassState). p.client.speaks) c.begin-request.ensures.pass ∙ c.pass.invariant.speaks));
       idle = ap (λ (one : Client). one.state) last;
     }
 
@@ -63,17 +61,17 @@ returns-clause-submitted g c =
     (subst (λ (p : PassState). IsSubmitted opening image Sure c.args.request kept old p outcome) (sym c.answer-answer.ensures.pass)
     (subst (λ (r : Message). IsSubmitted opening image Sure r kept old (record mid { client = answering mid.client outcome }) outcome) begin.same
     (begun_for opening image Sure c.begin-request.result kept old begun mid (answering mid.client outcome) begin.known begin.seen began outcome
-    (subst (λ (m : Mode). IsSubmitted opening image Sure c.begin-request.result m begun mid outcome) (c.mode.ensures.mode ∙ c.args.self.now.moded) c.serve_to_end-answer.ensures.submitted)))))
+    (subst (λ (m : Mode). IsSubmitted opening image Sure c.begin-request.result m begun mid outcome) (c.mode.ensures.mode ∙ c.args.self.now.moded) c.serve_to_end-answer.ensures.served)))))
 
 pub returns-clause-kind : goal.returns-clause-kind
 returns-clause-kind g c =
     subst (λ (a : Answer). IsAnswerTo c.args.flags.now c.args.request.head.kind a) (sym c.answer-answer.ensures.same)
-    (subst (λ (r : Message). IsAnswerTo c.args.flags.now r.head.kind c.serve_to_end-answer.result) c.begin-request.ensures.same c.serve_to_end-answer.ensures.kind)
+    (subst (λ (r : Message). IsAnswerTo c.args.flags.now r.head.kind c.serve_to_end-answer.result) c.begin-request.ensures.same c.serve_to_end-answer.ensures.fits.0)
 
 pub returns-clause-judged : goal.returns-clause-judged
 returns-clause-judged g c =
     subst (λ (a : Answer). IsJudged (verdict c.args.request.head c.args.self.now.geometry c.args.flags.now) c.args.request a) (sym c.answer-answer.ensures.same)
-    (subst (λ (r : Message). IsJudged (verdict r.head c.args.self.now.geometry c.args.flags.now) r c.serve_to_end-answer.result) c.begin-request.ensures.same c.serve_to_end-answer.ensures.judged)
+    (subst (λ (r : Message). IsJudged (verdict r.head c.args.self.now.geometry c.args.flags.now) r c.serve_to_end-answer.result) c.begin-request.ensures.same c.serve_to_end-answer.ensures.fits.1)
 
 pub returns-clause-tells : goal.returns-clause-tells
 returns-clause-tells g c =
@@ -86,13 +84,13 @@ returns-clause-tells g c =
 pub returns-clause-by : goal.returns-clause-by
 returns-clause-by g c =
     let mid = c.serve_to_end-answer.new.pass.client in
-    let sent = c.serve_to_end-answer.ensures.client ∙ ap (λ (p : PassState). record p.client { state = mid.state }) c.begin-request.ensures.pass in
+    let sent = c.serve_to_end-answer.ensures.client.0 ∙ ap (λ (p : PassState). record p.client { state = mid.state }) c.begin-request.ensures.pass in
     ap (λ (p : PassState). p.client.by) c.answer-answer.ensures.pass ∙ (called_by c.pass.inside.pass.client mid c.args.request c.serve_to_end-answer.result sent ∙ ap (λ (p : PassState). p.client.by) c.pass.view_is)
 
 pub returns-clause-calls : goal.returns-clause-calls
 returns-clause-calls g c =
     let mid = c.serve_to_end-answer.new.pass.client in let outcome = c.serve_to_end-answer.result in
-    let sent = c.serve_to_end-answer.ensures.client ∙ ap (λ (p : PassState). record p.client { state = mid.state }) c.begin-request.ensures.pass in
+    let sent = c.serve_to_end-answer.ensures.client.0 ∙ ap (λ (p : PassState). record p.client { state = mid.state }) c.begin-request.ensures.pass in
     ap (λ (p : PassState). p.client.mine) c.answer-answer.ensures.pass
     ∙ (called c.pass.inside.pass.client mid c.args.request outcome sent
     ∙ (ap (λ (p : PassState). p.client.mine ++ Sent p.client.by c.args.request ∷ Answered p.client.by outcome ∷ []) c.pass.view_is
