@@ -7,67 +7,35 @@ use header_slots::HeaderFault;
 use journal_format::JournalFault;
 use regions::RegionFault;
 use std::alloc::AllocError;
-use std::error::Error;
-use std::fmt;
-use std::fmt::{Display, Formatter};
 
-/// Why a call of the keeper was refused; `docs/FORMATS.md`, "Refusals", has the numbers.
+/// Why a call of the keeper was refused. The number and the text of each stand in one table, that of `Refusal` in `front_end`.
 #[derive(Clone, Copy, Debug, PartialEq, Eq)]
 pub enum KeeperFault {
-    /// 0: a growth of memory was refused.
+    /// A growth of memory was refused.
     NoMemory,
-    /// 1: a call of the device failed.
+    /// A call of the device failed.
     DeviceFault,
-    /// 6: the map in the header's map slot has a block with code 3, or a bit past the last block is set.
+    /// The map in the header's map slot has a block with code 3, or a bit past the last block is set.
     BadMap,
-    /// 7: no header is in force.
+    /// No header is in force.
     NoHeader,
-    /// 8: the header in force breaks a rule.
+    /// The header in force breaks a rule.
     BadHeader,
-    /// 9: no generation is greater than that of the header in force.
+    /// No generation is greater than that of the header in force.
     NumbersFull,
-    /// 10: the group doesn't fit the area.
+    /// The group doesn't fit the area.
     AreaFull,
-    /// 11: the group's first number isn't the next.
+    /// The group's first number isn't the next.
     OutOfOrder,
-    /// 12: no whole group stands after an open gate.
+    /// No whole group stands after an open gate.
     DamagedGroup,
-    /// 15: the checkpoint isn't at this step.
+    /// The checkpoint isn't at this step.
     NotNow,
-    /// 16: a call of the device has failed before; open the device again.
+    /// A call of the device has failed before; open the device again.
     Failed,
-    /// 22: layout 2 would have areas below their limit.
+    /// Layout 2 would have areas below their limit.
     AreaSmall,
 }
-
-impl KeeperFault {
-    // What is printed of it.
-    fn text(self) -> &'static str {
-        match self {
-            KeeperFault::NoMemory => "no memory",
-            KeeperFault::DeviceFault => "device fault",
-            KeeperFault::BadMap => "bad map",
-            KeeperFault::NoHeader => "no header",
-            KeeperFault::BadHeader => "bad header",
-            KeeperFault::NumbersFull => "numbers full",
-            KeeperFault::AreaFull => "area full",
-            KeeperFault::OutOfOrder => "out of order",
-            KeeperFault::DamagedGroup => "damaged group",
-            KeeperFault::NotNow => "not now",
-            KeeperFault::Failed => "failed",
-            KeeperFault::AreaSmall => "area too small",
-        }
-    }
-}
-
-// Written out, one call writes the text, where a derived one has a call for each variant.
-impl Display for KeeperFault {
-    fn fmt<W: fmt::Write>(&self, f: &mut Formatter<W>) -> fmt::Result {
-        f.write_str(self.text())
-    }
-}
-
-impl Error for KeeperFault {}
 
 impl From<DeviceFault> for KeeperFault {
     ghost from_gives = { λ _ fault. fault ≡ KeeperFault.DeviceFault };

@@ -10,7 +10,8 @@ use std::error::Error;
 use std::fmt;
 use std::fmt::{Display, Formatter};
 
-/// Why a run of the program ended early; `docs/FORMATS.md`, "Refusals", has the numbers.
+/// Why a run of the program ended early. `docs/FORMATS.md`, "Refusals", says when each comes; a `KeeperFault` has its number and text
+/// here.
 #[derive(Clone, Copy, Debug, PartialEq, Eq)]
 pub enum Refusal {
     NoMemory,
