@@ -38,9 +38,9 @@ module _ {D : Type 0} (keeper : KeeperState D) (state : State) (image : Image) (
   phase_more after same synced [] is phased = tt
   phase_more after same synced (plan ∷ plans) is phased =
       let header = keeps.stands.header in
-      let many = fronts_many (areas_in header.geometry) header.in_front header.first_area header.geometry (next_number header.base) keeps.areas.front keeper.memory.plans state keeps.areas.earlier_held in
-      let some : 0 < header.in_front = omega (arith, many, ap (λ (p : List PlanState). length p) is) in
-      let other = behind_apart (areas_in header.geometry) 0 header.in_front header.first_area header.first_inside some header.few_areas in
+      let many = fronts_many (areas_in header.geometry) header.before_last header.first_area header.geometry (next_number header.base) keeps.areas.front keeper.memory.plans state keeps.areas.earlier_held in
+      let some : 0 < header.before_last = omega (arith, many, ap (λ (p : List PlanState). length p) is) in
+      let other = behind_apart (areas_in header.geometry) 0 header.before_last header.first_area header.first_inside some header.few_areas in
       let in_last = in_area keeper state image number keeps in
       phase_on keeper state image number keeps after
       (λ place here. same place (λ within. apart header.geometry header.first_area (last_area header) place other here (in_last place within)))

@@ -18,7 +18,7 @@ use Rattle.device_image.specs.laws.Frame.{held_kept, last_high, one_kept, others
 use Rattle.device_image.specs.laws.AfterWrite.{holds_lists}
 use Rattle.device_image.specs.laws.Kept.{low_synced}
 use Rattle.device_image.specs.laws.Lists.{KeepsLists}
-use Rattle.checkpoint.proofs.Readings.{seen_steady}
+use Rattle.checkpoint.proofs.SyncedReads.{seen_steady}
 
 -- what stands for an image still does where the content is the same
 abbrev pub stands_there : (content other : List ℕ) (image : Image) (number : ℕ) → content ≡ other → StandsFor content image number → StandsFor other image number
@@ -80,7 +80,7 @@ module _ {D : Type 0} (keeper : KeeperState D) (state : State) (base : Image) (f
   pub holds_reading : (disk : D) (after : State) → IsOnlyRead state after → Holds (record keeper { disk = disk }) after base fronts last
   holds_reading disk after read =
       holds_lists (record keeper { disk = disk }) after (apply_all last (apply_all (joined fronts) base)) (keeper.base + length (joined fronts) + length last) holds.keeps.areas.front holds.keeps.areas.groups
-      (keeps_reading keeper disk state after (apply_all last (apply_all (joined fronts) base)) (keeper.base + length (joined fronts) + length last) read holds.keeps) base fronts last refl refl holds.in_front holds.in_last
+      (keeps_reading keeper disk state after (apply_all last (apply_all (joined fronts) base)) (keeper.base + length (joined fronts) + length last) read holds.keeps) base fronts last refl refl holds.before_last holds.in_last
       (subst (λ (content : List ℕ). IsBase base content keeper.geometry keeper.memory.map (joined fronts)) (seen_steady holds.keeps.steady read) holds.is_base)
 
   -- the data region has the bytes of blocks that are data at the base

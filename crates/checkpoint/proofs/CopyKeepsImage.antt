@@ -13,7 +13,7 @@ use Rattle.device_image.specs.inner.Copied.{IsCopiedOver}
 use Rattle.device_image.specs.inner.Free.{to_be_copied}
 use Rattle.device_image.specs.Keeper.{AreUncopied, KeeperState, PlanState, TellSame, count_puts, earlier_of, is_put, phase_of}
 use Rattle.device_image.specs.Keeps.{AreHeld, IsCopying, IsInPhase, IsPlaced, Keeps, touched_first}
-use Rattle.device_image.specs.Stands.{StandsFor, areas_in_front, next_number}
+use Rattle.device_image.specs.Stands.{StandsFor, areas_before_last, next_number}
 use Rattle.device_image.specs.laws.Copied.{copy_places, keeps_copied}
 use Rattle.device_image.specs.laws.Free.{torn_free}
 use Rattle.device_image.specs.Plan.{IsNextCopy}
@@ -48,8 +48,8 @@ module _ {D : Type 0} (keeper : KeeperState D) (state : State) (image : Image) (
   pub first : IsFirst plan.first keeps.stands.header keeps.areas.front
   first =
       let header = keeps.stands.header in
-      first_area (areas_in header.geometry) header.in_front plan.first header keeps.areas.front (earlier_of rest) state (next_number header.base)
-      (subst (λ (p : List PlanState). AreHeld (areas_in_front header) header.geometry (next_number header.base) keeps.areas.front (earlier_of p) state) is keeps.areas.earlier_held)
+      first_area (areas_in header.geometry) header.before_last plan.first header keeps.areas.front (earlier_of rest) state (next_number header.base)
+      (subst (λ (p : List PlanState). AreHeld (areas_before_last header) header.geometry (next_number header.base) keeps.areas.front (earlier_of p) state) is keeps.areas.earlier_held)
 
   module _ (put : PutRange) (most : ℕ) (next : IsNextCopy plan most put) (unmapped : plan.mapped ≡ None) where
     blocks_inside : put.first + put.blocks ≤ keeps.stands.header.geometry.blocks

@@ -19,7 +19,7 @@ use Rattle.journal_format.specs.Area.{AreaState}
 use Rattle.regions.specs.Layout.{area_at, area_size, areas_in, behind, block_at, next_of}
 use Rattle.regions.specs.laws.Ring.{area_high, area_low, behind_below}
 use Rattle.device_image.specs.inner.CheckpointHeader.{with_next, without_first}
-use Rattle.device_image.specs.inner.Copied.{IsTurnBegun, LeavesTurn}
+use Rattle.device_image.specs.inner.Copied.{IsAreaStarted, LeavesAreaStart}
 use Rattle.device_image.specs.Holds.{Holds}
 use Rattle.device_image.specs.Keeper.{AreUncopied, IsPlanOf, IsUncopied, KeeperState, PlanState, count_puts, last_number, last_turned, lefts_of, phase_in, phase_of, turned_of}
 use Rattle.device_image.specs.Keeps.{Keeps}
@@ -105,34 +105,34 @@ module _ {D : Type 0} (keeper : KeeperState D) (state : State) (image : Image) (
   positive : 0 < area_size keeps.stands.header.geometry
   positive = omega (arith, keeps.areas.held.list.inside, keeps.areas.placed.bytes)
 
-  module _ (header : Header) (header_is : IsRenewed keeper.memory.header (with_next keeper.memory.header) header) (room : keeper.memory.header.in_front + 1 < areas_in keeper.memory.header.geometry)
-      (from : ℕ) (from_is : from ≡ area_at keeper.geometry (behind (areas_in keeper.geometry) (suc keeper.memory.header.in_front) keeper.memory.header.first_area)) where
-    room_here : suc keeps.stands.header.in_front < areas_in keeps.stands.header.geometry
-    room_here = subst (λ (h : Header). suc h.in_front < areas_in h.geometry) keeps.headed (omega (arith, room))
+  module _ (header : Header) (header_is : IsRenewed keeper.memory.header (with_next keeper.memory.header) header) (room : keeper.memory.header.before_last + 1 < areas_in keeper.memory.header.geometry)
+      (from : ℕ) (from_is : from ≡ area_at keeper.geometry (behind (areas_in keeper.geometry) (suc keeper.memory.header.before_last) keeper.memory.header.first_area)) where
+    room_here : suc keeps.stands.header.before_last < areas_in keeps.stands.header.geometry
+    room_here = subst (λ (h : Header). suc h.before_last < areas_in h.geometry) keeps.headed (omega (arith, room))
 
     header_begun : header ≡ begun keeps.stands.header room_here
     header_begun =
         same_fields header (begun keeps.stands.header room_here)
         (header_is.generation ∙ ap (λ (h : Header). h.generation + 1) keeps.headed)
         (header_is.geometry ∙ ap (λ (h : Header). h.geometry) keeps.headed)
-        (omega (arith, header_is.in_front, ap (λ (h : Header). h.in_front) keeps.headed))
+        (omega (arith, header_is.before_last, ap (λ (h : Header). h.before_last) keeps.headed))
         (header_is.first_area ∙ ap (λ (h : Header). h.first_area) keeps.headed)
         (header_is.map_slot ∙ ap (λ (h : Header). h.map_slot) keeps.headed)
         (header_is.base ∙ ap (λ (h : Header). h.base) keeps.headed)
 
-    from_at : from ≡ area_at keeps.stands.header.geometry (behind (areas_in keeps.stands.header.geometry) (suc keeps.stands.header.in_front) keeps.stands.header.first_area)
+    from_at : from ≡ area_at keeps.stands.header.geometry (behind (areas_in keeps.stands.header.geometry) (suc keeps.stands.header.before_last) keeps.stands.header.first_area)
     from_at = from_is
-        ∙ ap (λ (geometry : Geometry). area_at geometry (behind (areas_in geometry) (suc keeper.memory.header.in_front) keeper.memory.header.first_area)) keeps.sizes
-        ∙ ap (λ (h : Header). area_at keeps.stands.header.geometry (behind (areas_in keeps.stands.header.geometry) (suc h.in_front) h.first_area)) keeps.headed
+        ∙ ap (λ (geometry : Geometry). area_at geometry (behind (areas_in geometry) (suc keeper.memory.header.before_last) keeper.memory.header.first_area)) keeps.sizes
+        ∙ ap (λ (h : Header). area_at keeps.stands.header.geometry (behind (areas_in keeps.stands.header.geometry) (suc h.before_last) h.first_area)) keeps.headed
 
     pub from_above : 8192 ≤ from
-    from_above = omega (arith, from_at, area_low keeps.stands.header.geometry (behind (areas_in keeps.stands.header.geometry) (suc keeps.stands.header.in_front) keeps.stands.header.first_area))
+    from_above = omega (arith, from_at, area_low keeps.stands.header.geometry (behind (areas_in keeps.stands.header.geometry) (suc keeps.stands.header.before_last) keeps.stands.header.first_area))
 
     from_high : from + area_size keeps.stands.header.geometry ≤ 8192 + 2 * keeps.stands.header.geometry.area
     from_high =
         let geometry = keeps.stands.header.geometry in
-        let area = behind (areas_in geometry) (suc keeps.stands.header.in_front) keeps.stands.header.first_area in
-        omega (arith, from_at, area_high geometry area (behind_below (areas_in geometry) (suc keeps.stands.header.in_front) keeps.stands.header.first_area keeps.stands.header.first_inside))
+        let area = behind (areas_in geometry) (suc keeps.stands.header.before_last) keeps.stands.header.first_area in
+        omega (arith, from_at, area_high geometry area (behind_below (areas_in geometry) (suc keeps.stands.header.before_last) keeps.stands.header.first_area keeps.stands.header.first_inside))
 
     pub comes_next : ComesNext keeper.memory.header header
     comes_next = record {
@@ -141,13 +141,13 @@ module _ {D : Type 0} (keeper : KeeperState D) (state : State) (image : Image) (
       area = ap (λ (size : Geometry). size.area) header_is.geometry;
     }
 
-    pub rotate_left : (content : List ℕ) → LeavesTurn state extent from keeper.memory.header keeper.memory.slot header content → StandsFor content image number
+    pub rotate_left : (content : List ℕ) → LeavesAreaStart state extent from keeper.memory.header keeper.memory.slot header content → StandsFor content image number
     rotate_left content left =
         begin_left keeper state image number keeps room_here extent sound positive content
-        (subst (λ (place : ℕ). LeavesTurn state extent place keeps.stands.header keeps.stands.slot (begun keeps.stands.header room_here) content) from_at
-        (subst (λ (h : Header). LeavesTurn state extent from keeps.stands.header keeps.stands.slot h content) header_begun
-        (subst (λ (slot : Side). LeavesTurn state extent from keeps.stands.header slot header content) keeps.slotted
-        (subst (λ (h : Header). LeavesTurn state extent from h keeper.memory.slot header content) keeps.headed left))))
+        (subst (λ (place : ℕ). LeavesAreaStart state extent place keeps.stands.header keeps.stands.slot (begun keeps.stands.header room_here) content) from_at
+        (subst (λ (h : Header). LeavesAreaStart state extent from keeps.stands.header keeps.stands.slot h content) header_begun
+        (subst (λ (slot : Side). LeavesAreaStart state extent from keeps.stands.header slot header content) keeps.slotted
+        (subst (λ (h : Header). LeavesAreaStart state extent from h keeper.memory.slot header content) keeps.headed left))))
 
     pub base_same : header.base ≡ keeper.base
     base_same = ap (λ (h : Header). h.base) header_begun ∙ sym keeps.from_base
@@ -156,11 +156,11 @@ module _ {D : Type 0} (keeper : KeeperState D) (state : State) (image : Image) (
     geometry_same = ap (λ (h : Header). h.geometry) header_begun ∙ sym keeps.sizes
 
     -- the data stay
-    pub data_stay : (after : State) → IsTurnBegun state extent from header (other_of keeper.memory.slot) after → (place : ℕ) → block_at keeps.stands.header.geometry 0 ≤ place → slice_index after.seen place ≡ slice_index state.seen place
+    pub data_stay : (after : State) → IsAreaStarted state extent from header (other_of keeper.memory.slot) after → (place : ℕ) → block_at keeps.stands.header.geometry 0 ≤ place → slice_index after.seen place ≡ slice_index state.seen place
     data_stay after turn place above =
         turn.others place (omega (arith, above)) (λ is. omega (arith, is, above, from_high, positive))
 
-    pub rotate_kept : (after : State) → IsSound extent after → (now : KeeperState D) (slot : Side) (next : AreaState) (plan : PlanState) → slot ≡ other_of keeper.memory.slot → IsTurnBegun state extent from header (other_of keeper.memory.slot) after
+    pub rotate_kept : (after : State) → IsSound extent after → (now : KeeperState D) (slot : Side) (next : AreaState) (plan : PlanState) → slot ≡ other_of keeper.memory.slot → IsAreaStarted state extent from header (other_of keeper.memory.slot) after
         → next ≡ record { from = from; bytes = area_size keeper.geometry; blocks = keeper.geometry.blocks; next = keeper.memory.area.next; gate = 0; touched = [] }
         → IsPlanOf keeper.memory.area plan
         → now ≡ record keeper {
@@ -176,13 +176,13 @@ module _ {D : Type 0} (keeper : KeeperState D) (state : State) (image : Image) (
         } → KeepsLists now after image number (keeps.areas.front ++ keeps.areas.groups ∷ []) []
     rotate_kept after after_sound now slot next plan slot_is turn next_is plan_is now_is =
         keeps_begun keeper state image number keeps room_here extent sound positive after after_sound
-        (subst (λ (place : ℕ). IsTurnBegun state extent place (begun keeps.stands.header room_here) (other_of keeps.stands.slot) after) from_at
-        (subst (λ (h : Header). IsTurnBegun state extent from h (other_of keeps.stands.slot) after) header_begun
-        (subst (λ (s : Side). IsTurnBegun state extent from header (other_of s) after) keeps.slotted turn)))
+        (subst (λ (place : ℕ). IsAreaStarted state extent place (begun keeps.stands.header room_here) (other_of keeps.stands.slot) after) from_at
+        (subst (λ (h : Header). IsAreaStarted state extent from h (other_of keeps.stands.slot) after) header_begun
+        (subst (λ (s : Side). IsAreaStarted state extent from header (other_of s) after) keeps.slotted turn)))
         plan plan_is now next
         (next_is ∙ ap (λ (place : ℕ). let area : AreaState = record { from = place; bytes = area_size keeper.geometry; blocks = keeper.geometry.blocks; next = keeper.memory.area.next; gate = 0; touched = [] } in area) from_at
         ∙ ap (λ (geometry : Geometry). let area : AreaState = record {
-          from = area_at keeps.stands.header.geometry (behind (areas_in keeps.stands.header.geometry) (suc keeps.stands.header.in_front) keeps.stands.header.first_area);
+          from = area_at keeps.stands.header.geometry (behind (areas_in keeps.stands.header.geometry) (suc keeps.stands.header.before_last) keeps.stands.header.first_area);
           bytes = area_size geometry;
           blocks = geometry.blocks;
           next = keeper.memory.area.next;
@@ -244,7 +244,7 @@ module _ {D : Type 0} (keeper : KeeperState D) (state : State) (image : Image) (
         same_fields header (ended_header keeper state image number keeps plan rest is after mapped)
         (header_is.generation ∙ ap (λ (h : Header). h.generation + 1) keeps.headed)
         (header_is.geometry ∙ ap (λ (h : Header). h.geometry) keeps.headed)
-        (omega (arith, header_is.in_front, ap (λ (h : Header). h.in_front) keeps.headed, several))
+        (omega (arith, header_is.before_last, ap (λ (h : Header). h.before_last) keeps.headed, several))
         (header_is.first_area ∙ ap (λ (h : Header). next_of (areas_in h.geometry) h.first_area) keeps.headed)
         (header_is.map_slot ∙ ap (λ (h : Header). other_of h.map_slot) keeps.headed)
         (header_is.base ∙ base_at ∙ sym (base_is keeper state image number keeps plan rest is after mapped extent fits))
@@ -288,9 +288,9 @@ module _ {D : Type 0} (keeper : KeeperState D) (state : State) (image : Image) (
 
 -- what the keeper holds, once its last area stands before another
 pub rotate_held : {D : Type 0} (keeper : KeeperState D) (state : State) (base : Image) (fronts : List (List Change)) (last : List Change) (holds : Holds keeper state base fronts last) {extent : ℕ} (sound : IsSound extent state)
-    (header : Header) (header_is : IsRenewed keeper.memory.header (with_next keeper.memory.header) header) (room : keeper.memory.header.in_front + 1 < areas_in keeper.memory.header.geometry)
-    (from : ℕ) (from_is : from ≡ area_at keeper.geometry (behind (areas_in keeper.geometry) (suc keeper.memory.header.in_front) keeper.memory.header.first_area))
-    (after : State) → IsSound extent after → (now : KeeperState D) (slot : Side) (next : AreaState) (plan : PlanState) → slot ≡ other_of keeper.memory.slot → IsTurnBegun state extent from header (other_of keeper.memory.slot) after
+    (header : Header) (header_is : IsRenewed keeper.memory.header (with_next keeper.memory.header) header) (room : keeper.memory.header.before_last + 1 < areas_in keeper.memory.header.geometry)
+    (from : ℕ) (from_is : from ≡ area_at keeper.geometry (behind (areas_in keeper.geometry) (suc keeper.memory.header.before_last) keeper.memory.header.first_area))
+    (after : State) → IsSound extent after → (now : KeeperState D) (slot : Side) (next : AreaState) (plan : PlanState) → slot ≡ other_of keeper.memory.slot → IsAreaStarted state extent from header (other_of keeper.memory.slot) after
     → next ≡ record { from = from; bytes = area_size keeper.geometry; blocks = keeper.geometry.blocks; next = keeper.memory.area.next; gate = 0; touched = [] }
     → IsPlanOf keeper.memory.area plan
     → now ≡ record keeper {

@@ -19,7 +19,7 @@ use Rattle.device_image.specs.Keeps.{AreHeld, IsInPhase, IsPlaced, Keeps, behind
 use Rattle.checkpoint.specs.Opening.{IsPassing, IsRefused}
 use Rattle.checkpoint.specs.inner.Opening.{IsOpened}
 use Rattle.checkpoint.specs.inner.Recovery.{IsBegun}
-use Rattle.device_image.specs.Stands.{StandsFor, HoldLists, all_changes, area_of, areas_in_front, in_use, last_area, next_number, stored_image}
+use Rattle.device_image.specs.Stands.{StandsFor, HoldLists, all_changes, area_of, areas_before_last, in_use, last_area, next_number, stored_image}
 use Rattle.checkpoint.specs.declared.fault.KeeperFault.{KeeperFault}
 use Rattle.checkpoint.specs.declared.fault.KeeperFault.TheVariants.{NoMemory, DeviceFault, BadMap, NoHeader, BadHeader, NumbersFull, AreaFull, OutOfOrder, DamagedGroup, NotNow, Failed, AreaSmall}
 use Rattle.device_image.specs.laws.CheckpointBounds.{uncopied_phase}
@@ -54,7 +54,7 @@ uncopied_begun [] uncopied = tt
 uncopied_begun (plan ∷ plans) uncopied = subst (λ (mapped : Option (List Kind)). IsBegun (phase_in plan.left mapped)) (sym (ap (λ (p : PlanState). p.mapped) uncopied.0)) tt
 
 module _ (state : State) (header : Header) (slot : Side) (states : List Kind) (plans : List PlanState) (area : AreaState) (opened : IsOpened state header slot states plans area) (fits : header.base < 18446744073709551616) where
-  pub held : HoldLists (areas_in_front header) state.seen header.geometry (next_number header.base) opened.areas.front
+  pub held : HoldLists (areas_before_last header) state.seen header.geometry (next_number header.base) opened.areas.front
   held = held_lists _ _ _ _ (earlier_of plans) state opened.areas.earlier_held
 
   -- the number before the area's next is that of the last command
@@ -79,7 +79,7 @@ module _ (state : State) (header : Header) (slot : Side) (states : List Kind) (p
     in_force = opened.in_force;
     map = opened.map;
     held = subst (λ (lists : List (List StoredGroup)). HoldLists (in_use header) state.seen header.geometry (next_number header.base) lists) (sym opened.areas.are)
-        (subst (λ (areas : List ℕ). HoldLists areas state.seen header.geometry (next_number header.base) (opened.areas.front ++ opened.areas.groups ∷ [])) (sym (ring-last (areas_in header.geometry) header.in_front header.first_area))
+        (subst (λ (areas : List ℕ). HoldLists areas state.seen header.geometry (next_number header.base) (opened.areas.front ++ opened.areas.groups ∷ [])) (sym (ring-last (areas_in header.geometry) header.before_last header.first_area))
         (with_last _ (last_area header) state.seen header.geometry (next_number header.base) opened.areas.front opened.areas.groups held
         (moved_list area (area_of header.geometry (last_area header)) _ _ state.seen opened.areas.placed.from opened.areas.placed.bytes opened.areas.placed.blocks opened.areas.held.list)));
     count = is;
@@ -104,14 +104,14 @@ module _ (state : State) (header : Header) (slot : Side) (states : List Kind) (p
       front = opened.areas.front;
       groups = opened.areas.groups;
       are = opened.areas.are;
-      earlier_held = subst (λ (list : List AreaState). AreHeld (areas_in_front header) header.geometry (next_number header.base) opened.areas.front list state) (ap earlier_of (sym plan_is)) opened.areas.earlier_held;
+      earlier_held = subst (λ (list : List AreaState). AreHeld (areas_before_last header) header.geometry (next_number header.base) opened.areas.front list state) (ap earlier_of (sym plan_is)) opened.areas.earlier_held;
       placed = subst (λ (a : AreaState). IsPlaced a header.geometry (last_area header)) (sym area_is) opened.areas.placed;
       held = subst (λ (a : AreaState). IsHeld a (behind_lists (next_number header.base) opened.areas.front) opened.areas.groups state) (sym area_is) opened.areas.held;
     };
     taken = used ∙ opened.areas.held.gate;
     phase = phase;
     phased = subst (λ (p : List PlanState). IsInPhase p state header states opened.areas.front) (sym plan_is)
-        (uncopied_phase (areas_in header.geometry) header.in_front header plans (next_number header.base) opened.areas.front state states opened.areas.earlier_held opened.uncopied);
+        (uncopied_phase (areas_in header.geometry) header.before_last header plans (next_number header.base) opened.areas.front state states opened.areas.earlier_held opened.uncopied);
     unsynced = λ place unsynced. absurd (opened.synced place unsynced);
   }
 

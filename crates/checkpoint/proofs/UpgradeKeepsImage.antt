@@ -24,7 +24,7 @@ use Rattle.checkpoint.specs.Upgrade.{HasEitherLayout, IsChanged, HasLargeAreas, 
 use Rattle.checkpoint.specs.inner.Upgrade.{IsLayoutFault}
 use Rattle.checkpoint.specs.declared.fault.KeeperFault.{KeeperFault}
 use Rattle.checkpoint.specs.declared.fault.KeeperFault.TheVariants as faults
-use Rattle.checkpoint.proofs.Reopened.{at_rest, is_full, no_plan}
+use Rattle.checkpoint.proofs.OpeningFindsHeader.{at_rest, is_full, no_plan}
 
 -- no checkpoint is under way where one area is in use
 none_planned : (plan : Option PlanState) (waiting : List PlanState) → plans_of plan waiting ≡ [] → plan ≡ None
@@ -53,7 +53,7 @@ module _ {D : Type 0} (keeper : KeeperState D) (state : State) (image : Image) (
       same_fields header (new_header keeper state image number keeps one none geometry halved extent sound)
       (header_is.generation ∙ ap (λ (h : Header). h.generation + 1) keeps.headed)
       header_is.geometry
-      header_is.in_front
+      header_is.before_last
       (let first = ap (λ (h : Header). h.first_area) keeps.headed in let is = header_is.first_area in omega (arith, is, first))
       (header_is.map_slot ∙ ap (λ (h : Header). h.map_slot) keeps.headed)
       (header_is.base ∙ ap (λ (h : Header). h.base) keeps.headed)
@@ -148,7 +148,7 @@ module _ {D : Type 0} (keeper : KeeperState D) (state : State) (image : Image) (
         is = record {
           generation = header_is.generation;
           geometry = refl;
-          in_front = header_is.in_front;
+          before_last = header_is.before_last;
           first_area = header_is.first_area;
           map_slot = header_is.map_slot;
           base = header_is.base;
@@ -177,7 +177,7 @@ changed_by {D} inside old now same geometry two blocks area sizes header is slot
       header = record {
         generation = is.generation;
         geometry = refl;
-        in_front = is.in_front;
+        before_last = is.before_last;
         first_area = is.first_area;
         map_slot = is.map_slot;
         base = is.base;

@@ -19,7 +19,7 @@ abbrev pub first_header : Geometry → Header
 first_header geometry = record {
   generation = 1;
   geometry = geometry;
-  in_front = 0;
+  before_last = 0;
   first_area = 0;
   map_slot = Zero;
   base = 0;

@@ -97,7 +97,7 @@ pub record IsAtRest (content : List ℕ) : Type 0 where
   pub header : Header
   pub slot : Side
   pub in_force : HoldsHeader content (length content) header slot
-  pub one : header.in_front ≡ 0
+  pub one : header.before_last ≡ 0
   pub list : IsList (area_of header.geometry header.first_area) (next_number header.base) [] content
 
 -- How many headers it takes to empty the last area in use: none if its list is empty; otherwise one that takes another area into

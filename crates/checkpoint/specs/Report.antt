@@ -18,7 +18,7 @@ pub record IsReport (report : Report) (content : List ℕ) : Type 0 where
   pub stands : StandsFor content image report.commands
   pub blocks : report.blocks ≡ image.blocks
   pub layout : report.layout ≡ stands.header.geometry.layout
-  pub in_front : report.in_front ≡ stands.header.in_front
+  pub before_last : report.before_last ≡ stands.header.before_last
   pub base : report.base ≡ stands.header.base
   pub data_blocks : report.data_blocks ≡ blocks_of Data image
   pub zero_blocks : report.zero_blocks ≡ blocks_of Zero image

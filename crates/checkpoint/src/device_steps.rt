@@ -1,5 +1,5 @@
 ghost use Rattle.std.specs.Prelude.{◌≡◌, ◌+◌, ◌*◌, ◌%◌, ◌<◌, ◌≤◌, ◌↔◌, ◌∷◌, [], length, OnOk};
-ghost use Rattle.device_image.specs.inner.Copied.{IsCopiedOver, IsMapStored, IsTurnBegun, LeavesTurn};
+ghost use Rattle.device_image.specs.inner.Copied.{IsCopiedOver, IsMapStored, IsAreaStarted, LeavesAreaStart};
 ghost use Rattle.disk_model.specs.Disk.{IsSteady, IsStored, IsSyncedIn, LeavesOnly, MayLeaveTorn};
 ghost use Rattle.disk_model.specs.Faults.{faults_after};
 ghost use Rattle.header_slots.specs.Change.{ComesNext};
@@ -82,7 +82,7 @@ pub fn empty_area<D: Disk>(disk: &mut D, area: &mut Area) -> Result<(), DeviceFa
 
 // Takes an area into use after those of the header that is in force in this slot: its list is empty, and then this header
 // is in force.
-pub fn begin_turn<D: Disk>(
+pub fn start_area<D: Disk>(
     disk: &mut D,
     area: &mut Area,
     slot: Side,
@@ -97,10 +97,10 @@ pub fn begin_turn<D: Disk>(
 
     ensures begun { D.honest disk.old → IsSteady (D.state disk.old) → IsSyncedIn (D.state disk.old) 0 8192 → 8192 ≤ area.old.from → (current : Header)
         → HoldsHeader (D.state disk.old).seen (D.extent disk.old) current slot → ComesNext current header.now
-        → OnOk result (IsTurnBegun (D.state disk.old) (D.extent disk.old) area.old.from header.now (other_of slot) (D.state disk.new)) }
+        → OnOk result (IsAreaStarted (D.state disk.old) (D.extent disk.old) area.old.from header.now (other_of slot) (D.state disk.new)) }
     ensures any_moment { D.honest disk.old → IsSteady (D.state disk.old) → IsSyncedIn (D.state disk.old) 0 8192 → 8192 ≤ area.old.from → (current : Header)
         → HoldsHeader (D.state disk.old).seen (D.extent disk.old) current slot → ComesNext current header.now
-        → LeavesOnly (D.state disk.old) (D.state disk.new) (LeavesTurn (D.state disk.old) (D.extent disk.old) area.old.from current slot header.now) }
+        → LeavesOnly (D.state disk.old) (D.state disk.new) (LeavesAreaStart (D.state disk.old) (D.extent disk.old) area.old.from current slot header.now) }
 {
     empty_area(disk, area)?;
     change_header(disk, slot, header)

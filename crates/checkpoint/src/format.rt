@@ -101,7 +101,7 @@ fn write_parts<D: Disk>(
     ensures any_moment { D.honest disk.old → AreClosed (D.state disk.old)
         → LeavesOnly (D.state disk.old) (D.state disk.new) (λ content. HoldsNone content (length content)) }
 {
-    let regions = Regions::of(&geometry);
+    let regions = Regions::from_geometry(&geometry);
     let mut area = Area::new(
         alloc,
         regions.area_from(0),
@@ -122,7 +122,7 @@ fn first_header(geometry: Geometry) -> Header
     Header {
         generation: 1,
         geometry,
-        in_front: 0,
+        before_last: 0,
         first_area: 0,
         map_slot: Side::Zero,
         base: 0,

@@ -84,7 +84,7 @@ impl<D: Disk> Model for Keeper<D> {
         × IfSome keeper.plan (λ plan. IsSized plan.first keeper.header.geometry (D.extent keeper.disk))
         × AreSized keeper.waiting.items keeper.header.geometry (D.extent keeper.disk)
         × (keeper.plan ≡ None → keeper.waiting.items ≡ [])
-        × (keeper.header.in_front ≡ length (plans_of keeper.plan keeper.waiting.items))
+        × (keeper.header.before_last ≡ length (plans_of keeper.plan keeper.waiting.items))
         × IsSized keeper.area keeper.header.geometry (D.extent keeper.disk)
         × (keeper.area.next ≡ next_number keeper.count)
         × (keeper.area.gate ≡ 0 → (keeper.area.touched ≡ []) × (keeper.count ≡ last_turned keeper.header.base (turned_of (plans_of keeper.plan keeper.waiting.items))))

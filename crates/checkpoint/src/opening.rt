@@ -99,7 +99,7 @@ fn read_device<D: Disk>(alloc: Global, disk: &mut D) -> Result<Opened, KeeperFau
     ensures sized { IfOk result (λ opened. AreSized opened.plans.items opened.header.geometry (D.extent disk.old)) }
     ensures blocks { IfOk result (λ opened. length opened.map ≡ opened.header.geometry.blocks) }
     ensures uncopied { IfOk result (λ opened. AreUncopied opened.plans.items) }
-    ensures many { IfOk result (λ opened. opened.header.in_front ≡ length opened.plans.items) }
+    ensures many { IfOk result (λ opened. opened.header.before_last ≡ length opened.plans.items) }
 
     ensures fixed { D.honest disk.old → MayLeave (D.state disk.old) (D.state disk.new).seen }
     ensures first { D.honest disk.old → IsReadFixed (D.state disk.old) D.state (D.state disk.new) (D.state disk.new).seen
@@ -126,7 +126,7 @@ pub fn read_parts<D: Disk>(alloc: Global, disk: &mut D) -> Result<Opened, Keeper
     ensures sized { IfOk result (λ opened. AreSized opened.plans.items opened.header.geometry (D.extent disk.old)) }
     ensures blocks { IfOk result (λ opened. length opened.map ≡ opened.header.geometry.blocks) }
     ensures uncopied { IfOk result (λ opened. AreUncopied opened.plans.items) }
-    ensures many { IfOk result (λ opened. opened.header.in_front ≡ length opened.plans.items) }
+    ensures many { IfOk result (λ opened. opened.header.before_last ≡ length opened.plans.items) }
 
     ensures only_read { D.honest disk.old → IsOnlyRead (D.state disk.old) (D.state disk.new) }
     ensures read { D.honest disk.old → IsAllSynced (D.state disk.old) → MatchResult result
@@ -134,7 +134,7 @@ pub fn read_parts<D: Disk>(alloc: Global, disk: &mut D) -> Result<Opened, Keeper
         (λ fault. IsRefused fault (D.state disk.new).seen) }
 {
     let (header, slot) = read_current(disk)?;
-    let map = Regions::of(&header.geometry).read_slot(alloc, disk, header.map_slot)?;
+    let map = Regions::from_geometry(&header.geometry).read_slot(alloc, disk, header.map_slot)?;
     let (plans, area) = read_areas(alloc, disk, &header)?;
     Ok(Opened {
         header,
@@ -160,7 +160,7 @@ fn read_areas<D: Disk>(
     ensures none { IfOk result (λ areas. areas.1.gate ≡ 0 → (areas.1.touched ≡ []) × (areas.1.next ≡ next_number (last_turned header.now.base (turned_of areas.0.items)))) }
     ensures sized { IfOk result (λ areas. AreSized areas.0.items header.now.geometry (D.extent disk.old)) }
     ensures uncopied { IfOk result (λ areas. AreUncopied areas.0.items) }
-    ensures many { IfOk result (λ areas. header.now.in_front ≡ length areas.0.items) }
+    ensures many { IfOk result (λ areas. header.now.before_last ≡ length areas.0.items) }
 
     ensures only_read { D.honest disk.old → IsOnlyRead (D.state disk.old) (D.state disk.new) }
     ensures read { D.honest disk.old → IsAllSynced (D.state disk.old) → MatchResult result
@@ -168,17 +168,17 @@ fn read_areas<D: Disk>(
         (λ fault. IsGroupsRefused fault (IsAreaDamaged (D.state disk.new).seen header.now)) }
 {
     let geometry = &header.geometry;
-    let regions = Regions::of(geometry);
+    let regions = Regions::from_geometry(geometry);
     let mut plans = Vec::new(alloc);
     // The number after 2^64 - 1 is 0: no number is left.
     let mut next = header.base.wrapping_add(1);
-    for place in 0..header.in_front {
+    for place in 0..header.before_last {
         let index = regions.area_after(header.first_area, place);
         let plan = read_plan(alloc, disk, geometry, index, next)?;
         next = plan.next();
         plans.push(plan).map_err(AllocError::from)?;
     }
-    let last = regions.area_after(header.first_area, header.in_front);
+    let last = regions.area_after(header.first_area, header.before_last);
     let area = read_area(alloc, disk, geometry, last, next)?;
     Ok((plans, area))
 }
@@ -207,7 +207,7 @@ fn read_plan<D: Disk>(
 {
     let area = read_area(alloc, disk, geometry, index, next)?;
     let touches = latest_writes(alloc, &area, geometry.blocks as u32)?;
-    Ok(CopyPlan::of(&area, touches))
+    Ok(CopyPlan::new(&area, touches))
 }
 
 // Reads the groups of an area, whose first has to begin with `next`.
@@ -232,7 +232,7 @@ fn read_area<D: Disk>(
         (λ area. HoldsList area next (D.state disk.new))
         (λ fault. IsGroupsRefused fault (IsDamaged (area_of geometry.now index) next (D.state disk.new).seen)) }
 {
-    let from = Regions::of(geometry).area_from(index);
+    let from = Regions::from_geometry(geometry).area_from(index);
     let mut area = Area::new(alloc, from, geometry.area_size(), geometry.blocks, next);
     area.scan(alloc, disk)?;
     Ok(area)

@@ -45,7 +45,11 @@ impl<D: Disk> Keeper<D> {
         if self.failed {
             return Err(KeeperFault::Failed);
         }
-        match Regions::of(&self.header.geometry).read_blocks(&mut self.disk, first, into) {
+        match Regions::from_geometry(&self.header.geometry).read_blocks(
+            &mut self.disk,
+            first,
+            into,
+        ) {
             Ok(()) => Ok(()),
             Err(fault) => {
                 self.failed = true;

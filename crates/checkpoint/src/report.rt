@@ -24,7 +24,7 @@ pub struct Report {
     /// How many blocks its image has.
     pub blocks: u64,
     /// The number of areas in use before the last.
-    pub in_front: u8,
+    pub before_last: u8,
     /// The number of the last command that map and data hold.
     pub base: u64,
     /// The number of the last command stored.
@@ -67,7 +67,7 @@ impl<D: Disk> Keeper<D> {
         Ok(Report {
             layout: header.geometry.layout,
             blocks: header.geometry.blocks,
-            in_front: header.in_front,
+            before_last: header.before_last,
             base: header.base,
             commands: area.next().wrapping_sub(1),
             data_blocks: map.count(Kind::Data),

@@ -18,7 +18,7 @@ ghost use Rattle.image_model.specs.Image.{Image, apply_all};
 ghost use Rattle.image_model.specs.Side.{other_of};
 ghost use Rattle.regions.specs.Layout.{area_at, area_size, areas_in, behind};
 
-use crate::device_steps::{begin_turn, copy_over, store_map};
+use crate::device_steps::{copy_over, start_area, store_map};
 use crate::fault::KeeperFault;
 use crate::keeper::Keeper;
 use crate::plans::{add_plan, take_first};
@@ -73,7 +73,7 @@ impl<D: Disk> Keeper<D> {
         let mut buffer = vec![in self.alloc; 0; put.blocks as usize * BLOCK_BYTES as usize]?;
         let from = plan.start() + put.place as u64;
         let geometry = self.header.geometry;
-        let regions = Regions::of(&geometry);
+        let regions = Regions::from_geometry(&geometry);
         match copy_over(
             &mut self.disk,
             &regions,
@@ -167,9 +167,9 @@ impl<D: Disk> Keeper<D> {
         let touches = latest_writes(self.alloc, &self.area, geometry.blocks as u32)?;
         self.waiting.reserve(1)?;
         let mut next = self.next_area();
-        match begin_turn(&mut self.disk, &mut next, self.slot, &header) {
+        match start_area(&mut self.disk, &mut next, self.slot, &header) {
             Ok(()) => {
-                let last = CopyPlan::of(&self.area, touches);
+                let last = CopyPlan::new(&self.area, touches);
                 self.area = next;
                 add_plan(&mut self.plan, &mut self.waiting, last);
                 self.header = header;
@@ -186,18 +186,18 @@ impl<D: Disk> Keeper<D> {
     // Whether an area isn't in use.
     fn has_spare_area(&self) -> bool
         ensures spare { IsTrue result ↔ (length self.now.turned + 1 < areas_in self.now.geometry) }
-        ensures room { IsTrue result → self.now.memory.header.in_front + 1 < areas_in self.now.memory.header.geometry }
+        ensures room { IsTrue result → self.now.memory.header.before_last + 1 < areas_in self.now.memory.header.geometry }
     {
-        self.header.in_front as u16 + 1 < self.header.geometry.areas() as u16
+        self.header.before_last as u16 + 1 < self.header.geometry.areas() as u16
     }
 
     // The next area in use too, after those that are.
     fn with_next(&self) -> HeaderChange
-        requires { self.now.memory.header.in_front + 1 < areas_in self.now.memory.header.geometry }
+        requires { self.now.memory.header.before_last + 1 < areas_in self.now.memory.header.geometry }
         ensures { result ≡ with_next self.now.memory.header }
     {
         HeaderChange {
-            in_front: self.header.in_front + 1,
+            before_last: self.header.before_last + 1,
             first_area: self.header.first_area,
             map_slot: self.header.map_slot,
             base: self.header.base,
@@ -206,14 +206,14 @@ impl<D: Disk> Keeper<D> {
 
     // The first area no longer in use, over the other map slot and this base.
     fn without_first(&self, base: u64) -> HeaderChange
-        requires { 0 < self.now.memory.header.in_front }
+        requires { 0 < self.now.memory.header.before_last }
         ensures change { result ≡ without_first self.now.memory.header base }
-        ensures few { result.in_front < areas_in self.now.memory.header.geometry }
+        ensures few { result.before_last < areas_in self.now.memory.header.geometry }
         ensures first { result.first_area < areas_in self.now.memory.header.geometry }
     {
-        let regions = Regions::of(&self.header.geometry);
+        let regions = Regions::from_geometry(&self.header.geometry);
         HeaderChange {
-            in_front: self.header.in_front - 1,
+            before_last: self.header.before_last - 1,
             first_area: regions.area_after(self.header.first_area, 1),
             map_slot: self.header.map_slot.other(),
             base,
@@ -222,9 +222,9 @@ impl<D: Disk> Keeper<D> {
 
     // The area after those in use, whose list is empty.
     fn next_area(&self) -> Area
-        requires { self.now.memory.header.in_front + 1 < areas_in self.now.memory.header.geometry }
+        requires { self.now.memory.header.before_last + 1 < areas_in self.now.memory.header.geometry }
         ensures { result ≡ record {
-          from = area_at self.now.geometry (behind (areas_in self.now.geometry) (suc self.now.memory.header.in_front) self.now.memory.header.first_area);
+          from = area_at self.now.geometry (behind (areas_in self.now.geometry) (suc self.now.memory.header.before_last) self.now.memory.header.first_area);
           bytes = area_size self.now.geometry;
           blocks = self.now.geometry.blocks;
           next = self.now.memory.area.next;
@@ -233,8 +233,8 @@ impl<D: Disk> Keeper<D> {
         } }
     {
         let geometry = self.header.geometry;
-        let regions = Regions::of(&geometry);
-        let index = regions.area_after(self.header.first_area, self.header.in_front + 1);
+        let regions = Regions::from_geometry(&geometry);
+        let index = regions.area_after(self.header.first_area, self.header.before_last + 1);
         Area::new(
             self.alloc,
             regions.area_from(index),
@@ -287,7 +287,12 @@ impl<D: Disk> Keeper<D> {
         let map = plan.map_after(self.alloc, &self.map)?;
         let geometry = self.header.geometry;
         let slot = self.header.map_slot.other();
-        match store_map(&mut self.disk, &Regions::of(&geometry), slot, &map) {
+        match store_map(
+            &mut self.disk,
+            &Regions::from_geometry(&geometry),
+            slot,
+            &map,
+        ) {
             Ok(()) => {
                 plan.set_map(map);
                 Ok(())
@@ -354,7 +359,7 @@ impl<D: Disk> Keeper<D> {
     fn take_over(&mut self, header: Header)
         requires time { IsFinishTime self.old.phase }
         requires geometry { header.geometry ≡ self.old.geometry }
-        requires in_front { header.in_front ≡ self.old.memory.header.in_front - 1 }
+        requires before_last { header.before_last ≡ self.old.memory.header.before_last - 1 }
         requires base { header.base ≡ first_turned self.old.base self.old.turned }
         ensures { self.new ≡ record self.old {
           generation = header.generation;
@@ -383,7 +388,7 @@ impl<D: Disk> Keeper<D> {
     // The number of the last command in the first area, where the map after it is written.
     fn base_after(&self) -> Option<u64>
         ensures some { IfSome result (λ base. IsFinishTime self.now.phase × (base ≡ first_turned self.now.base self.now.turned)) }
-        ensures several { IfSome result (λ base. 0 < self.now.memory.header.in_front) }
+        ensures several { IfSome result (λ base. 0 < self.now.memory.header.before_last) }
         ensures none { IfNone result (IsFinishTime self.now.phase → ⊥) }
     {
         match &self.plan {

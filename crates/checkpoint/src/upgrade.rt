@@ -98,7 +98,7 @@ impl<D: Disk> Keeper<D> {
         };
         match change_header(&mut self.disk, self.slot, &header) {
             Ok(()) => {
-                let from = Regions::of(&geometry).area_from(header.first_area);
+                let from = Regions::from_geometry(&geometry).area_from(header.first_area);
                 self.area = Area::new(
                     self.alloc,
                     from,

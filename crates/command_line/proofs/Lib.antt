@@ -1,5 +1,5 @@
 mod Addresses
 mod Builders
-mod Given
+mod ValuesOfGetters
 mod Intervals
 mod Sizes

@@ -1,4 +1,4 @@
 mod MapAfterArea
-mod Counts
+mod BlocksLeftToCopy
 mod NextCopy
-mod Told
+mod RememberedTouches

@@ -12,7 +12,7 @@ use Rattle.latest_writes.specs.declared.range.PutRange.{PutRange}
 use Rattle.latest_writes.specs.declared.touch.LastTouch.{LastTouch}
 use Rattle.device_image.specs.Keeper.{PlanState, count_puts, is_put}
 use Rattle.device_image.specs.Plan.{IsNextCopy, IsPlan}
-use Rattle.device_image.proofs.Counts.{is_put_at}
+use Rattle.device_image.proofs.BlocksLeftToCopy.{is_put_at}
 use Rattle.device_image.specs.laws.Puts.{all_counted, count_more, none_counted}
 
 some_is_none : {touch : LastTouch} → Some touch ≡ None → ⊥

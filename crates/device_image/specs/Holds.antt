@@ -32,7 +32,7 @@ joined fronts = flat_map (λ front. front) fronts
 -- the last area.
 pub record Holds {D : Type 0} (keeper : KeeperState D) (state : State) (base : Image) (fronts : List (List Change)) (last : List Change) : Type 0 where
   pub keeps : Keeps keeper state (apply_all last (apply_all (joined fronts) base)) (keeper.base + length (joined fronts) + length last)
-  pub in_front : map changes_of keeps.areas.front ≡ fronts
+  pub before_last : map changes_of keeps.areas.front ≡ fronts
   pub in_last : changes_of keeps.areas.groups ≡ last
   pub is_base : IsBase base state.seen keeper.geometry keeper.memory.map (joined fronts)
 

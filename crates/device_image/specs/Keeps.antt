@@ -15,7 +15,7 @@ use Rattle.journal_format.specs.declared.touch.TouchedRange.{TouchedRange}
 use Rattle.regions.specs.Layout.{area_at, area_size, block_at, map_at}
 use Rattle.regions.specs.Map.{HoldsMap}
 use Rattle.device_image.specs.Keeper.{AreStatesAfter, AreUncopied, KeeperState, PlanState, TellSame, count_puts, earlier_of, is_put, phase_of}
-use Rattle.device_image.specs.Stands.{StandsFor, areas_in_front, last_area, next_number}
+use Rattle.device_image.specs.Stands.{StandsFor, areas_before_last, last_area, next_number}
 
 -- the area is this one of a device with these sizes
 pub record IsPlaced (area : AreaState) (geometry : Geometry) (index : ℕ) : Type 0 where
@@ -50,7 +50,7 @@ pub record HoldsAreas (state : State) (header : Header) (lists : List (List Stor
   pub front : List (List StoredGroup)
   pub groups : List StoredGroup
   pub are : lists ≡ front ++ groups ∷ []
-  pub earlier_held : AreHeld (areas_in_front header) header.geometry (next_number header.base) front earlier state
+  pub earlier_held : AreHeld (areas_before_last header) header.geometry (next_number header.base) front earlier state
   pub placed : IsPlaced area header.geometry (last_area header)
   pub held : IsHeld area (behind_lists (next_number header.base) front) groups state
 

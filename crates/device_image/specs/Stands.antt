@@ -39,14 +39,14 @@ area_of geometry area = record { from = area_at geometry area; bytes = area_size
 
 -- the areas in use, in the order of the ring
 abbrev pub in_use : Header → List ℕ
-in_use header = ring (areas_in header.geometry) (suc header.in_front) header.first_area
+in_use header = ring (areas_in header.geometry) (suc header.before_last) header.first_area
 
 -- those before the last, and the last
-abbrev pub areas_in_front : Header → List ℕ
-areas_in_front header = ring (areas_in header.geometry) header.in_front header.first_area
+abbrev pub areas_before_last : Header → List ℕ
+areas_before_last header = ring (areas_in header.geometry) header.before_last header.first_area
 
 abbrev pub last_area : Header → ℕ
-last_area header = behind (areas_in header.geometry) header.in_front header.first_area
+last_area header = behind (areas_in header.geometry) header.before_last header.first_area
 
 -- These areas hold these lists of groups: that of the first begins with the number `next`, and each further one with the
 -- number after those before it.

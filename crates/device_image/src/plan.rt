@@ -98,7 +98,7 @@ fn apply_touches(
 
 impl CopyPlan {
     /// A checkpoint of this area, with its last touches, of which nothing is copied.
-    pub fn of(area: &Area, touches: LastTouches) -> CopyPlan
+    pub fn new(area: &Area, touches: LastTouches) -> CopyPlan
         requires blocks { touches.blocks ≡ area.now.blocks }
         requires few { area.now.blocks ≤ 16777216 }
         requires last { AreLastTouches area.now.from area.now.blocks area.now.touched touches.ranges }

@@ -1,5 +1,5 @@
-mod Entries
-mod Exits
-mod Patched
+mod OneEntryMore
+mod AnswersOfCalls
+mod BytesReplaced
 mod Steps
 mod Unwinding

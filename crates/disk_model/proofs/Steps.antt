@@ -7,8 +7,8 @@ use Rattle.disk_model.specs.Disk.{InRange, MayLeave, MayLeaveTorn, IsWritten, Is
 use Rattle.disk_model.specs.History.{patched, content_before, unsynced_by, synced_content, DiffersAt, left_by, state_of}
 use Rattle.disk_model.specs.inner.History.{IsPut}
 use Rattle.disk_model.specs.HistoryLaws.{left_only_now}
-use Rattle.disk_model.proofs.Entries.{reverse-push}
-use Rattle.disk_model.proofs.Patched.{patched_within, patched_others, patched_back, length-patched}
+use Rattle.disk_model.proofs.OneEntryMore.{reverse-push}
+use Rattle.disk_model.proofs.BytesReplaced.{patched_within, patched_others, patched_back, length-patched}
 
 -- no step
 pub stays : (history : List Entry) (content : List ℕ) (P : List ℕ → Type 0) → ((left : List ℕ) → DiffersAt (unsynced_by history) content left → P left) → LeavesOnly (state_of history content) (state_of history content) P

@@ -6,8 +6,8 @@ use Rattle.disk_model.specs.declared.history.Write.{Write}
 use Rattle.disk_model.specs.declared.history.Entry.TheVariants.{Written}
 use Rattle.disk_model.specs.Disk.{InRange}
 use Rattle.disk_model.specs.History.{IsInside, patched, unsynced_by, synced_content}
-use Rattle.disk_model.proofs.Entries.{reverse-push, inside_rest, inside_last}
-use Rattle.disk_model.proofs.Patched.{length-patched, patched_within, patched_others}
+use Rattle.disk_model.proofs.OneEntryMore.{reverse-push, inside_rest, inside_last}
+use Rattle.disk_model.proofs.BytesReplaced.{length-patched, patched_within, patched_others}
 
 -- from this history and content on, to what is left of the history and the content now
 pub record Unwinds (first : List Entry) (start : List ℕ) (rest : List Entry) (now : List ℕ) : Type 0 where

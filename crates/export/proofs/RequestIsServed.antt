@@ -27,10 +27,10 @@ use Rattle.export_model.specs.declared.action.Action.{Action}
 use Rattle.export_model.specs.declared.connection.Connection.{Connection}
 use Rattle.export_model.specs.declared.step.Mode.{Mode}
 use Rattle.export.proofs.AnswersFitRequests.{over_fits}
-use Rattle.export.proofs.Clients.{ComesTo, client_for, over_client_for, shown_client, unserved_client, waited_may}
+use Rattle.export.proofs.ClientAfterServing.{ComesTo, client_for, over_client_for, shown_client, unserved_client, waited_may}
 use Rattle.export.proofs.ServedIsShown.{shown_for, told, waited_tells}
-use Rattle.export.proofs.Submits.{over_served_for, waited_for}
-use Rattle.export.proofs.Unserved.{unserved_fits, unserved_for, unserved_tells}
+use Rattle.export.proofs.PassAfterServing.{over_served_for, waited_for}
+use Rattle.export.proofs.RefusedUndone.{unserved_fits, unserved_for, unserved_tells}
 use Rattle.export.specs.Submits.{IsJudged}
 use Rattle.export.specs.inner.Serving.{IsServedAs, MayServe}
 use Rattle.export.specs.inner.Submits.{FitsServed, IsServedFor, IsShownFor, IsUnserved, IsWaiting, IsWaitedFor}

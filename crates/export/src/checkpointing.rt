@@ -120,13 +120,13 @@ impl<B: ExportName, D: Disk, H: ReadUnlocked, T: Trust> Export<B, D, H, T> {
         let turn = self.signals.turn.lock(rt);
         let mut engine = self.engine.lock(rt);
         drop(turn);
-        let hold = self.take_step(rt, &mut engine);
+        let step_outcome = self.take_step(rt, &mut engine);
         drop(engine);
-        if !matches!(hold, StepOutcome::NoMemory) && !progress.retries.are_none() {
+        if !matches!(step_outcome, StepOutcome::NoMemory) && !progress.retries.has_no_refusal() {
             progress.retries = Retries::new();
             self.queue.lock(rt).set_cannot_copy(false);
         }
-        match hold {
+        match step_outcome {
             StepOutcome::Rotated => {}
             StepOutcome::Copied(CopyStep::Blocks(more)) => {
                 progress.blocks = progress.blocks.saturating_add(more);
@@ -148,17 +148,17 @@ impl<B: ExportName, D: Disk, H: ReadUnlocked, T: Trust> Export<B, D, H, T> {
         points: &mut G,
         retries: &mut Retries,
     ) -> bool {
-        if retries.are_none() {
+        if retries.has_no_refusal() {
             points.reach(Point::NoMemory);
         }
         retries.wait(rt);
-        if !retries.are_long() {
+        if !retries.is_long() {
             return true;
         }
         let mut queue = self.queue.lock(rt);
         queue.set_cannot_copy(true);
         self.signals.settled.notify_all();
-        !(queue.is_flushed() && (queue.is_stopped() || retries.are_hopeless()))
+        !(queue.is_flushed() && (queue.is_stopped() || retries.is_hopeless()))
     }
 
     // Takes the first step that there is, under the keeper's lock. Another area is taken into use where none waits to be copied, and

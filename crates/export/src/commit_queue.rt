@@ -227,7 +227,7 @@ impl<B: ExportName> CommitQueue<B> {
 
     /// The blocks of which a write command takes old bytes from the device.
     pub(crate) fn missing_edges(&self, head: &RequestHead) -> MissingEdges {
-        MissingEdges::of(head, self.order.order(), self.settled)
+        MissingEdges::new(head, self.order.order(), self.settled)
     }
 
     /// Serves a READ with bytes of the device that were read without locks. They come back if the blocks may have other bytes now, or
@@ -275,7 +275,7 @@ impl<B: ExportName> CommitQueue<B> {
         let head = request.head();
         let is_vouched = handle.vouch(
             &terms.geometry,
-            Blocks::of(&head).first,
+            Blocks::from_head(&head).first,
             planned.span,
             &bytes,
             planned.settled,
@@ -426,7 +426,7 @@ impl<B: ExportName> CommitQueue<B> {
             && (self.calls_flusher
                 || self.lacks_room
                 || self.passes == 0
-                || !self.waiters.are_one()
+                || !self.waiters.is_alone()
                 || self.has_much_pending())
     }
 

@@ -16,7 +16,7 @@ pub(crate) struct MissingEdges {
 }
 
 impl MissingEdges {
-    pub(crate) fn of<B: BoardName>(
+    pub(crate) fn new<B: BoardName>(
         head: &RequestHead,
         order: &Order<B>,
         settled: NotedBase,

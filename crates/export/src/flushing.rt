@@ -76,18 +76,18 @@ impl<B: ExportName, D: Disk, H: ReadUnlocked, T: Trust> Export<B, D, H, T> {
             Flush::Waited => Some(None),
             Flush::Ended => None,
             Flush::Done => {
-                if !retries.are_none() {
+                if !retries.has_no_refusal() {
                     *retries = Retries::new();
                     self.queue.lock(rt).set_cannot_store(false);
                 }
                 Some(None)
             }
             Flush::NoMemory(back) => {
-                if retries.are_none() {
+                if retries.has_no_refusal() {
                     points.reach(Point::NoMemory);
                 }
                 retries.wait(rt);
-                if retries.are_long() && self.gives_up(rt, retries) {
+                if retries.is_long() && self.gives_up(rt, retries) {
                     if let Some(group) = back {
                         group.let_go();
                     }
@@ -103,7 +103,7 @@ impl<B: ExportName, D: Disk, H: ReadUnlocked, T: Trust> Export<B, D, H, T> {
         let mut queue = self.queue.lock(rt);
         queue.set_cannot_store(true);
         self.signals.settled.notify_all();
-        queue.is_stopped() || (queue.is_left() && retries.are_hopeless())
+        queue.is_stopped() || (queue.is_left() && retries.is_hopeless())
     }
 
     // Seals the next group that is to be stored, where there is one, else it waits for a while.

@@ -14,7 +14,7 @@ const MOST_GATHERED: u64 = 25;
 pub(crate) struct Waiters {
     // Those whose number is in a group, and those whose number isn't yet.
     sealed: usize,
-    behind: usize,
+    unsealed: usize,
     // How many threads the next group may have: those that waited when the last one was stored.
     expected: usize,
 }
@@ -23,7 +23,7 @@ impl Waiters {
     pub(crate) fn new() -> Waiters {
         Waiters {
             sealed: 0,
-            behind: 0,
+            unsealed: 0,
             expected: 0,
         }
     }
@@ -33,37 +33,37 @@ impl Waiters {
         let part = if is_sealed {
             &mut self.sealed
         } else {
-            &mut self.behind
+            &mut self.unsealed
         };
         *part = part.saturating_add(1);
     }
 
     /// All that is pending went into a group.
     pub(crate) fn seal(&mut self) {
-        self.sealed = self.sealed.saturating_add(self.behind);
-        self.behind = 0;
+        self.sealed = self.sealed.saturating_add(self.unsealed);
+        self.unsealed = 0;
     }
 
     /// The group came back.
     pub(crate) fn put_back(&mut self) {
-        self.behind = self.behind.saturating_add(self.sealed);
+        self.unsealed = self.unsealed.saturating_add(self.sealed);
         self.sealed = 0;
     }
 
     /// The group was stored: the threads that waited for it go on, and may soon wait for the next one, as the others already do.
     pub(crate) fn publish(&mut self) {
-        self.expected = self.sealed.saturating_add(self.behind);
+        self.expected = self.sealed.saturating_add(self.unsealed);
         self.sealed = 0;
     }
 
     /// Whether one thread waits for the next group, and no other one is expected to.
-    pub(crate) fn are_one(&self) -> bool {
-        self.behind == 1 && self.expected <= 1
+    pub(crate) fn is_alone(&self) -> bool {
+        self.unsealed == 1 && self.expected <= 1
     }
 
     /// Whether fewer wait for the next group than are expected.
     pub(crate) fn expects_more(&self) -> bool {
-        self.behind < self.expected
+        self.unsealed < self.expected
     }
 }
 

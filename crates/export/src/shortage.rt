@@ -31,17 +31,17 @@ impl Retries {
     }
 
     /// Whether the step hasn't been refused since one was last taken.
-    pub(crate) fn are_none(&self) -> bool {
+    pub(crate) fn has_no_refusal(&self) -> bool {
         self.waited == 0
     }
 
     /// Whether no client is to wait for the step any more.
-    pub(crate) fn are_long(&self) -> bool {
+    pub(crate) fn is_long(&self) -> bool {
         self.waited >= PATIENCE
     }
 
     /// Whether the step isn't to be taken again, once all clients have left.
-    pub(crate) fn are_hopeless(&self) -> bool {
+    pub(crate) fn is_hopeless(&self) -> bool {
         self.waited >= LAST_PATIENCE
     }
 

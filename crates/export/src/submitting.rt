@@ -245,7 +245,7 @@ impl<B: ExportName, D: Disk, H: ReadUnlocked, T: Trust> Export<B, D, H, T> {
             if block >= self.geometry.blocks {
                 continue;
             }
-            let from = Regions::of(&self.geometry).block_from(block);
+            let from = Regions::from_geometry(&self.geometry).block_from(block);
             if handle
                 .read_unlocked(edges.settled, from, &mut bytes)
                 .is_err()
@@ -279,7 +279,7 @@ impl<B: ExportName, D: Disk, H: ReadUnlocked, T: Trust> Export<B, D, H, T> {
             return None;
         };
         let head = request.head();
-        let blocks = Blocks::of(&head);
+        let blocks = Blocks::from_head(&head);
         let Some(mut bytes) = self.room(rt, blocks.bytes()) else {
             return None;
         };
@@ -344,7 +344,7 @@ impl<B: ExportName, D: Disk, H: ReadUnlocked, T: Trust> Export<B, D, H, T> {
         let end = (BLOCK_BYTES * (span.end - first)) as usize;
         handle.read_unlocked(
             planned.settled,
-            Regions::of(&self.geometry).block_from(span.first),
+            Regions::from_geometry(&self.geometry).block_from(span.first),
             &mut into[from..end],
         )
     }

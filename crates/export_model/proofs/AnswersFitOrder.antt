@@ -31,7 +31,7 @@ use Rattle.export_model.specs.Verdict.{verdict}
 use Rattle.export_model.specs.World.{World, Stage, Setting, fits, fresh, has_room, image_after, in_hand, last_number, put}
 use Rattle.export_model.specs.laws.Fit as law
 use Rattle.export_model.specs.laws.Logged.{IsQuiet, put_same}
-use Rattle.export_model.proofs.Reached.{sound_reached}
+use Rattle.export_model.proofs.SchedulesKeepWorld.{sound_reached}
 use Rattle.export_model.specs.laws.Sound.{IsOpen, IsSound, IsRight, facts_of, one_event}
 use Rattle.export_model.specs.laws.Steps.{of_either, quiet_failed, quiet_held, quiet_numbered, quiet_took}
 use Rattle.export_model.specs.laws.Talk.{flush_no_read}

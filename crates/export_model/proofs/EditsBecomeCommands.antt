@@ -29,7 +29,7 @@ use Rattle.export_model.specs.laws.Events.{get_more, get_split}
 use Rattle.export_model.specs.laws.Logged.{put_same}
 use Rattle.export_model.specs.laws.Sound.{IsRight, IsSound, facts_of}
 use Rattle.export_model.specs.laws.Steps.{of_either, passes_write}
-use Rattle.export_model.proofs.Reached.{grows_step, sound_reached}
+use Rattle.export_model.proofs.SchedulesKeepWorld.{grows_step, sound_reached}
 use Rattle.export_model.proofs.AnswersFitOrder.{shown_true}
 
 -- a step has put a command of this connection's request at the end of the order

@@ -1,5 +1,5 @@
 mod EditsBecomeCommands
-mod Reached
+mod SchedulesKeepWorld
 mod AnswersFitOrder
-mod Truthful
-mod Waiting
+mod LogTellsDevice
+mod WaitsForOrder

@@ -22,8 +22,8 @@ pub record IsReadOf (trusted : Type 0) (image : Image) (seen : List Change) (req
   pub no_done : outcome ≢ Done
   pub right : trusted → outcome ≡ shown_by (apply_all seen image) request.head
 
--- An open request may be refused, or shown; who waits is told that it is done once its number is durable, or that the device failed;
--- to whom that is due, that it is done. `durable` is a number that is known to be durable, and `seen` a beginning of the order.
+-- An open request may be refused, or shown. A client that waits is told that its request is done once the number is durable, or that the
+-- device failed; a client that is due an Ok is told that. `durable` is a number that is known to be durable, and `seen` a beginning of the order.
 abbrev pub MayAnswer : Type 0 → Image → ℕ → List Change → Connection → Answer → Type 0
 MayAnswer trusted image durable seen Idle outcome = ⊥
 MayAnswer trusted image durable seen (Requested request) outcome = ((errno : Errno) × (outcome ≡ Refused errno)) ⊎ IsReadOf trusted image seen request outcome

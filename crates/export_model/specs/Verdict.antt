@@ -1,4 +1,4 @@
--- what becomes of a request before anything is done for it, by docs/FORMATS.md, "Judgement": the first rule that applies
+-- what becomes of a request before anything is done for it, by docs/FORMATS.md, "Validation": the first rule that applies
 use Rattle.std.specs.Prelude.{ℕ, ◌≡◌, ◌<◌, ◌≤◌, ◌+◌, ◌*◌, Bool, ◌==◌, ◌||◌, ◌&&◌, not, nat_lt, if◌then◌else◌, Result, Ok, Err, bit_and, List, [], ◌∷◌}
 use Rattle.nbd_wire.specs.declared.error.Errno.{Errno}
 use Rattle.nbd_wire.specs.declared.error.Errno.TheVariants.{Invalid, NoSpace}

@@ -30,7 +30,7 @@ use Rattle.export_steps.specs.laws.Lives.{IsOrdered, keeps_of, ordered, part_non
 use Rattle.request_core.specs.laws.Commands.{apply_append}
 use Rattle.export_steps.specs.laws.Orders.{order_puts_back, order_stops}
 use Rattle.export_steps.proofs.StoringSteps.{not_true_is}
-use Rattle.export_steps.proofs.Times.{copy_lefts, copy_phase, copy_sound, copy_whole, finish_lefts, finish_phase, finish_some, finish_sound, finish_whole, fronts_more, map_phase, map_sound, map_whole, numbers_length, numbers_more, rotate_lefts, rotate_phase, rotate_some, rotate_sound, rotate_whole, phase_by}
+use Rattle.export_steps.proofs.CheckpointTimes.{copy_lefts, copy_phase, copy_sound, copy_whole, finish_lefts, finish_phase, finish_some, finish_sound, finish_whole, fronts_more, map_phase, map_sound, map_whole, numbers_length, numbers_more, rotate_lefts, rotate_phase, rotate_some, rotate_sound, rotate_whole, phase_by}
 use Rattle.export_model.specs.Checkpoint.{can_copy, can_finish, can_map, can_rotate, finished, is_full, is_turned, last_turned, left_behind, rotated, to_copy}
 use Rattle.export_model.specs.declared.event.Event.{Event}
 use Rattle.export_model.specs.declared.event.Event.TheVariants.{Took, Skipped, Failed}

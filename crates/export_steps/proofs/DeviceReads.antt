@@ -15,7 +15,7 @@ use Rattle.nbd_wire.specs.declared.error.Errno.{Errno}
 use Rattle.order_book.specs.Order.{OrderState}
 use Rattle.request_core.specs.Outcomes.{IsEditRefused, IsEditServed, IsPassed, IsServedBy, IsWriteAsked}
 use Rattle.export_steps.specs.inner.Outcomes.{IsServedWith, IsStopped}
-use Rattle.export_steps.proofs.Lifted.{Comes, passes, refused_so, written}
+use Rattle.export_steps.proofs.ServingLiftsToWorld.{Comes, passes, refused_so, written}
 use Rattle.export_steps.proofs.Serves.{if_false, if_true, write_accepted}
 use Rattle.request_core.specs.laws.Requests.{write_others}
 use Rattle.export_model.specs.Log.{edit_asked, is_flush, is_write}
@@ -49,7 +49,7 @@ use Rattle.nbd_wire.specs.declared.error.Errno.TheVariants.{Io, NoMemory}
 use Rattle.export_steps.specs.inner.Steps.{IsAnyServed, IsAnyTalked, IsAsked, IsSure, KeepsDisk}
 use Rattle.export_steps.specs.laws.Clean.{clean_at}
 use Rattle.export_steps.specs.laws.Lives.{disk_grows, ordered}
-use Rattle.export_steps.proofs.Performed.{keeper_grows}
+use Rattle.export_steps.proofs.StepsOfEachKind.{keeper_grows}
 use Rattle.export_steps.proofs.Serves.{event_quiet}
 use Rattle.export_model.specs.declared.event.Event.{Event}
 use Rattle.export_model.specs.declared.event.Event.TheVariants.{Took}

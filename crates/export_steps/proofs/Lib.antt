@@ -3,12 +3,12 @@ mod DeviceReads
 mod CheckpointSteps
 mod CopiesAreSteps
 mod Fresh
-mod Lifted
-mod Performed
+mod ServingLiftsToWorld
+mod StepsOfEachKind
 mod Refusals
 mod Runs
 mod Serves
 mod StepsKeepCommands
 mod StoringSteps
 mod Talks
-mod Times
+mod CheckpointTimes

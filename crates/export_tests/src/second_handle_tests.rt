@@ -1,4 +1,4 @@
-//! Reads beside the locks that are held while all else goes on: writes, clears, checkpoints, and frames that are let go.
+//! Reads without locks, during which all else goes on: writes, clears, checkpoints, and frames that are let go.
 ghost use Rattle.std.specs.Prelude.{◌≡◌, ◌+◌, ◌<◌, ◌^◌};
 ghost use Rattle.shared_store.specs.Orders.{SpanRead};
 
@@ -222,6 +222,6 @@ fn run_in_memory<R: Threads + Wait + Clock + Sync>(rt: &R, alloc: Global) -> Opt
 
 #[test]
 fn held_read_gives_what_was_written_meanwhile(rt: HostRuntime) {
-    let good = run_in_memory(&rt, rt.alloc()).expect(&rt, "a read beside the locks");
+    let good = run_in_memory(&rt, rt.alloc()).expect(&rt, "a read without locks");
     assert!(rt; good);
 }

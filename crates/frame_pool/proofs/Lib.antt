@@ -1,11 +1,11 @@
 mod Block
 mod Crosses
-mod Fresh
-mod Linked
+mod AscendingLinks
+mod LinksOfLists
 mod Memory
-mod Moved
-mod Numbered
+mod FrameChangesList
+mod FrameNumbers
 mod RingMoves
-mod Ringed
+mod RingInMemory
 mod Sharing
-mod Written
+mod FramesWithBytes

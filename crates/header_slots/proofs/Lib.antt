@@ -1,2 +1,2 @@
-mod Changed
-mod Closing
+mod HeaderChangeByCalls
+mod GateClosedAfterRead

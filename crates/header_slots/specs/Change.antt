@@ -13,7 +13,7 @@ use Rattle.header_slots.specs.Slots.{slot_at, IsOpen, HoldsHeader}
 pub record IsRenewed (header : Header) (change : HeaderChange) (next : Header) : Type 0 where
   pub generation : next.generation ≡ header.generation + 1
   pub geometry : next.geometry ≡ header.geometry
-  pub in_front : next.in_front ≡ change.in_front
+  pub before_last : next.before_last ≡ change.before_last
   pub first_area : next.first_area ≡ change.first_area
   pub map_slot : next.map_slot ≡ change.map_slot
   pub base : next.base ≡ change.base
@@ -23,7 +23,7 @@ pub record IsRenewed (header : Header) (change : HeaderChange) (next : Header) :
 pub record IsUpgraded (header : Header) (halved : Geometry) (next : Header) : Type 0 where
   pub generation : next.generation ≡ header.generation + 1
   pub geometry : next.geometry ≡ halved
-  pub in_front : next.in_front ≡ 0
+  pub before_last : next.before_last ≡ 0
   pub first_area : next.first_area ≡ 2 * header.first_area
   pub map_slot : next.map_slot ≡ header.map_slot
   pub base : next.base ≡ header.base

@@ -14,8 +14,8 @@ magic_of Two = 0x4e42444a524e4c32
 
 -- the byte that tells how many areas are in use before the last
 abbrev pub mode_of : Layout → ℕ → ℕ
-mode_of One in_front = in_front
-mode_of Two in_front = in_front + 1
+mode_of One before_last = before_last
+mode_of Two before_last = before_last + 1
 
 -- The 39 bytes from this place on, after a gate, spell this header.
 pub record SpellsAt (content : List ℕ) (place : ℕ) (header : Header) : Type 0 where
@@ -23,7 +23,7 @@ pub record SpellsAt (content : List ℕ) (place : ℕ) (header : Header) : Type 
   pub generation : number_at (place + 8) 8 content ≡ header.generation
   pub blocks : number_at (place + 16) 8 content ≡ header.geometry.blocks
   pub area : number_at (place + 24) 4 content ≡ area_size_of header.geometry.layout header.geometry.area
-  pub mode : slice_index content (place + 28) ≡ mode_of header.geometry.layout header.in_front
+  pub mode : slice_index content (place + 28) ≡ mode_of header.geometry.layout header.before_last
   pub first_area : slice_index content (place + 29) ≡ header.first_area
   pub map_slot : slice_index content (place + 30) ≡ index_of header.map_slot
   pub base : number_at (place + 31) 8 content ≡ header.base
@@ -40,6 +40,6 @@ pub data IsBadAt (content : List ℕ) (place : ℕ) : Type 0 where
   outside_limits : (layout : Layout) → number_at place 8 content ≡ magic_of layout
       → ¬ (AreSizesOf layout (number_at (place + 16) 8 content) (number_at (place + 24) 4 content)) → IsBadAt content place
   no_mode : (layout : Layout) → number_at place 8 content ≡ magic_of layout
-      → ((in_front : ℕ) → in_front < areas_of layout → slice_index content (place + 28) ≢ mode_of layout in_front) → IsBadAt content place
+      → ((before_last : ℕ) → before_last < areas_of layout → slice_index content (place + 28) ≢ mode_of layout before_last) → IsBadAt content place
   no_first_area : (layout : Layout) → number_at place 8 content ≡ magic_of layout → areas_of layout ≤ slice_index content (place + 29) → IsBadAt content place
   no_map_slot : 1 < slice_index content (place + 30) → IsBadAt content place

@@ -16,7 +16,7 @@ use image_model::{CLOSED, Geometry, OPEN, Side};
 /// The fields of a header that its successor changes. Its generation is one greater than that of the header in force, and the sizes stay.
 #[derive(Clone, Copy)]
 pub struct HeaderChange {
-    pub in_front: u8,
+    pub before_last: u8,
     pub first_area: u8,
     pub map_slot: Side,
     /// The number of the last command that map and data hold.
@@ -26,7 +26,7 @@ pub struct HeaderChange {
 impl Header {
     /// The next header, with what the change says; none where no generation is greater: refusal 9 (numbers full).
     pub fn next(&self, change: &HeaderChange) -> Option<Header>
-        requires few { change.now.in_front < areas_of self.now.geometry.layout }
+        requires few { change.now.before_last < areas_of self.now.geometry.layout }
         requires first { change.now.first_area < areas_of self.now.geometry.layout }
         ensures some { IfSome result (IsRenewed self.now change.now) }
         ensures none { (result ≡ None) ↔ (self.now.generation ≡ 18446744073709551615) }
@@ -35,7 +35,7 @@ impl Header {
         Some(Header {
             generation,
             geometry: self.geometry,
-            in_front: change.in_front,
+            before_last: change.before_last,
             first_area: change.first_area,
             map_slot: change.map_slot,
             base: change.base,
@@ -56,7 +56,7 @@ impl Header {
         Some(Header {
             generation: self.generation + 1,
             geometry,
-            in_front: 0,
+            before_last: 0,
             first_area: 2 * self.first_area,
             map_slot: self.map_slot,
             base: self.base,

@@ -12,13 +12,13 @@ pub struct Header {
     pub generation: u64,
     pub geometry: Geometry,
     /// How many areas are in use before the last.
-    pub in_front: u8,
+    pub before_last: u8,
     /// The area that holds the first commands above the base; those after it in the ring are in use too.
     pub first_area: u8,
     pub map_slot: Side,
     /// The number of the last command that map and data hold.
     pub base: u64,
-    pub ghost few_areas: { in_front < areas_of geometry.layout },
+    pub ghost few_areas: { before_last < areas_of geometry.layout },
     pub ghost first_inside: { first_area < areas_of geometry.layout },
 }
 
@@ -40,7 +40,7 @@ impl Header {
         let Header {
             generation,
             geometry,
-            in_front,
+            before_last,
             first_area,
             map_slot,
             base,
@@ -50,7 +50,7 @@ impl Header {
         BigEndian::write_u64(&mut bytes[8..], generation);
         BigEndian::write_u64(&mut bytes[16..], geometry.blocks);
         BigEndian::write_u32(&mut bytes[24..], geometry.area_size());
-        bytes[28] = Self::mode(geometry.layout, in_front);
+        bytes[28] = Self::mode(geometry.layout, before_last);
         bytes[29] = first_area;
         bytes[30] = map_slot.index();
         BigEndian::write_u64(&mut bytes[31..], base);
@@ -68,13 +68,13 @@ impl Header {
     }
 
     // The byte that tells how many areas are in use.
-    fn mode(layout: Layout, in_front: u8) -> u8
-        requires { in_front < areas_of layout }
-        ensures { result ≡ mode_of layout in_front }
+    fn mode(layout: Layout, before_last: u8) -> u8
+        requires { before_last < areas_of layout }
+        ensures { result ≡ mode_of layout before_last }
     {
         match layout {
-            Layout::One => in_front,
-            Layout::Two => in_front + 1,
+            Layout::One => before_last,
+            Layout::Two => before_last + 1,
         }
     }
 
@@ -90,18 +90,18 @@ impl Header {
     }
 
     // How many areas are in use before the last, by the byte that tells it.
-    fn in_front(layout: Layout, mode: u8) -> Option<u8>
-        ensures { MatchOption result ((in_front : ℕ) → in_front < areas_of layout → mode ≢ mode_of layout in_front)
-            (λ in_front. (mode ≡ mode_of layout in_front) × (in_front < areas_of layout)) }
+    fn before_last(layout: Layout, mode: u8) -> Option<u8>
+        ensures { MatchOption result ((before_last : ℕ) → before_last < areas_of layout → mode ≢ mode_of layout before_last)
+            (λ before_last. (mode ≡ mode_of layout before_last) × (before_last < areas_of layout)) }
     {
-        let in_front = match layout {
+        let before_last = match layout {
             Layout::One => mode,
             Layout::Two => mode.checked_sub(1)?,
         };
-        if in_front >= layout.areas() {
+        if before_last >= layout.areas() {
             return None;
         }
-        Some(in_front)
+        Some(before_last)
     }
 
     /// The header that these 39 bytes after a gate spell; none where a field is outside its limits ("Header slot" of docs/FORMATS.md).
@@ -111,7 +111,7 @@ impl Header {
     {
         let layout = Self::layout(u64_at(bytes, 0))?;
         let geometry = Geometry::with_areas(layout, u64_at(bytes, 16), u32_at(bytes, 24))?;
-        let in_front = Self::in_front(layout, bytes[28])?;
+        let before_last = Self::before_last(layout, bytes[28])?;
         let first_area = bytes[29];
         if first_area >= geometry.areas() {
             return None;
@@ -119,9 +119,9 @@ impl Header {
         Some(Header {
             generation: u64_at(bytes, 8),
             geometry,
-            in_front,
+            before_last,
             first_area,
-            map_slot: Side::of(bytes[30])?,
+            map_slot: Side::from_index(bytes[30])?,
             base: u64_at(bytes, 31),
         })
     }

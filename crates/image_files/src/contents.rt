@@ -16,7 +16,7 @@ pub enum Content {
 
 impl Content {
     /// What a file of this length holds.
-    pub(crate) fn of_length(length: u64) -> Option<Content> {
+    pub(crate) fn from_length(length: u64) -> Option<Content> {
         if length == 0 {
             return None;
         }

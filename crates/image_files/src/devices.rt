@@ -14,7 +14,7 @@ pub(crate) struct DeviceNumber {
 
 impl DeviceNumber {
     /// Of a block device's node.
-    pub(crate) fn of(node: &Metadata) -> Option<DeviceNumber> {
+    pub(crate) fn from_metadata(node: &Metadata) -> Option<DeviceNumber> {
         if !node.file_type().is_block_device() {
             return None;
         }
@@ -28,7 +28,7 @@ impl DeviceNumber {
     // Of what a path names.
     fn at(rt: &HostRuntime, path: &str) -> Option<DeviceNumber> {
         match fs::metadata(rt, path) {
-            Ok(node) => DeviceNumber::of(&node),
+            Ok(node) => DeviceNumber::from_metadata(&node),
             Err(_) => None,
         }
     }
@@ -249,7 +249,7 @@ impl Locks {
         sharing: Sharing,
     ) -> Result<Locks, FileFault> {
         let mut files = Vec::new(rt.alloc());
-        if let Some(device) = DeviceNumber::of(node) {
+        if let Some(device) = DeviceNumber::from_metadata(node) {
             let own = lock_node(rt, device, node, sharing)?;
             let behind = lock_backing(rt, device, sharing)?;
             let whole = match device.whole(rt)? {
@@ -280,9 +280,9 @@ fn lock_node(
         if let Some(name) = line.strip_prefix("DEVNAME=") {
             let path = format!(in rt.alloc(); "/dev/{name}")?;
             return match fs::metadata(rt, path.as_str()) {
-                Ok(found) if DeviceNumber::of(&found) == Some(device) && !is_same(&found, node) => {
-                    lock_at(rt, path.as_str(), sharing)
-                }
+                Ok(found)
+                    if DeviceNumber::from_metadata(&found) == Some(device)
+                        && !is_same(&found, node) => { lock_at(rt, path.as_str(), sharing) }
                 _ => Ok(None),
             };
         }

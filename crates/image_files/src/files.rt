@@ -132,7 +132,7 @@ fn lock_and_check(
     let metadata = OpenFile::metadata(file)?;
     let locks = Locks::take(rt, &metadata, sharing)?;
     if sharing == Sharing::Alone {
-        let holder = match DeviceNumber::of(&metadata) {
+        let holder = match DeviceNumber::from_metadata(&metadata) {
             Some(device) => holder_of(rt, device)?,
             None => holder_of_file(rt, &metadata)?,
         };
@@ -289,7 +289,7 @@ fn fresh(
         (file, None)
     } else {
         match place {
-            Place::File => (file, Content::of_length(length)),
+            Place::File => (file, Content::from_length(length)),
             Place::BlockDevice => content_of(file),
         }
     };

@@ -10,7 +10,7 @@ pub enum Side {
 
 impl Side {
     /// The side with this index; none but 0 and 1 is one.
-    pub fn of(index: u8) -> Option<Side>
+    pub fn from_index(index: u8) -> Option<Side>
         ensures { MatchOption result (1 < index) (λ side. index ≡ index_of side) }
     {
         match index {

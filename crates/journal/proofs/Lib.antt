@@ -1,4 +1,4 @@
 mod Bodies
 mod Heads
 mod RefusalHandedOn
-mod Torn
+mod CrashWhileAppending

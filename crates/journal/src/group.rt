@@ -50,7 +50,7 @@ fn bodies(commands: &[Command]) -> u32
 
 impl Group {
     /// The commands as one group, the first of them with the number `first`.
-    pub fn of(first: u64, commands: Vec<Command>) -> Group
+    pub fn new(first: u64, commands: Vec<Command>) -> Group
         requires { IsGroup first commands.items }
         ensures { result ≡ record { first = first; commands = commands.items } }
     {

@@ -1,5 +1,5 @@
-mod Laid
-mod Joined
+mod NewerOverOlder
+mod RangesGrow
 mod Halves
-mod Copied
-mod Found
+mod BlocksToCopy
+mod NextPut

@@ -1,5 +1,5 @@
-mod Parts
-mod Filling
+mod UnfinishedPiece
+mod DataReadIntoRoom
 mod Appends
 mod Chunks
 mod Decoding

@@ -49,7 +49,7 @@ pub fn serve_at<R: Threads + Wait + Clock + Copy + Send + Sync + Drop + 'static>
         return exit_status(Err(Refusal::NoMemory), &mut rt.stderr());
     };
     let log = ServerLog::new(threads, &lines, path, teller.is_verbose());
-    let outcome = match Name::of(rt, teller, name) {
+    let outcome = match Name::new(rt, teller, name) {
         Err(refusal) => Err(refusal),
         Ok(name) => match status {
             None => serve_logged(
@@ -94,7 +94,7 @@ struct Name {
 }
 
 impl Name {
-    fn of(rt: &HostRuntime, teller: Teller, name: ServedName<'_>) -> Result<Name, Refusal> {
+    fn new(rt: &HostRuntime, teller: Teller, name: ServedName<'_>) -> Result<Name, Refusal> {
         let text = name.text;
         let made = if name.is_fresh {
             match random_number(rt) {

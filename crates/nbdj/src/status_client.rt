@@ -72,7 +72,7 @@ fn print_lines(rt: &HostRuntime, socket: &str) -> io::Result<()> {
     output.flush()
 }
 
-// Prints the figures each second until the server, or who reads them, is gone.
+// Prints the figures each second until the server or the reader is gone.
 fn watch<R: Wait + Clock>(rt: &HostRuntime, waits: &R, socket: &str) -> io::Result<()> {
     let is_screen = rt.stdout().is_terminal();
     let mut before = figures_of(rt, &fetch(rt, socket)?)?;

@@ -45,7 +45,7 @@ use Rattle.nbdj_pipe.specs.Talk.{spoken, verdict_on}
 use Rattle.front_end.specs.declared.refusal.Refusal.{Refusal}
 use Rattle.nbdj_pipe.proofs.Causes.{cause_behind}
 use Rattle.nbdj_pipe.proofs.Steps.{last_same, of_test, spoken_on, still_step}
-use Rattle.nbdj_pipe.proofs.Wanted.{header_wanted}
+use Rattle.nbdj_pipe.proofs.HeaderWasWanted.{header_wanted}
 
 -- a step of a checkpoint was done, or its event shows why the checkpoint ends early
 pub turn_shown : (world next : World) (step : Step) (event : Event) (outcome : Result (Unit {0}) Refusal) → IsRun world (step ∷ []) next → IsStoring step → next.log ≡ world.log ++ event ∷ [] → EndsBy event outcome

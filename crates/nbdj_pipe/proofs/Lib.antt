@@ -1,7 +1,7 @@
 mod Dialogs
 mod Steps
 mod Causes
-mod Wanted
+mod HeaderWasWanted
 mod Checkpoints
 mod Sessions
 mod Runs

@@ -32,7 +32,7 @@ const MOST_COPIED: u32 = 256;
 
 // Whether a group fits the area, by the events of sealing it, appending it and publishing it. After a fault of the device
 // nothing is refused: the order is stopped, and answers tell of it.
-fn stored(sealed: &Event, appended: &Event, published: &Event) -> Result<bool, Refusal>
+fn fits_area(sealed: &Event, appended: &Event, published: &Event) -> Result<bool, Refusal>
     ensures early { IfErr result IsOfExport }
     ensures events { StoredBy sealed.now appended.now published.now result }
 {
@@ -54,7 +54,7 @@ fn stored(sealed: &Event, appended: &Event, published: &Event) -> Result<bool, R
 }
 
 // Whether a checkpoint goes on after a step with this event.
-fn turned(event: &Event) -> Result<(), Refusal>
+fn goes_on_after(event: &Event) -> Result<(), Refusal>
     ensures { EndsBy event.now result }
 {
     match event {
@@ -130,7 +130,7 @@ impl<B: BoardName, D: Disk> Export<B, D> {
     }
 
     // Carries out a step of a checkpoint.
-    fn turn(&mut self, step: Step) -> Result<(), Refusal>
+    fn checkpoint_step(&mut self, step: Step) -> Result<(), Refusal>
         requires storing { IsStoring step }
         requires group { IfSome self.old.connections.group (IsInHand self.old.order) }
         ensures group { IfSome self.new.connections.group (IsInHand self.new.order) }
@@ -143,7 +143,7 @@ impl<B: BoardName, D: Disk> Export<B, D> {
             × MatchResult result (λ done. IsDone world (after_step world step failure)) (λ refusal. HasCause refusal world (after_step world step failure)) }
     {
         let event = self.store_step(step);
-        let goes_on = turned(&event);
+        let goes_on = goes_on_after(&event);
         let_go(event);
         goes_on
     }
@@ -189,7 +189,7 @@ impl<B: BoardName, D: Disk> Export<B, D> {
             match self.copy_some() {
                 Ok(_) => {}
                 Err(event) => {
-                    let end = turned(&event);
+                    let end = goes_on_after(&event);
                     let_go(event);
                     return end;
                 }
@@ -212,8 +212,8 @@ impl<B: BoardName, D: Disk> Export<B, D> {
         leads_law::<D>();
         schedule_law();
         self.copy_all()?;
-        self.turn(Step::Map)?;
-        self.turn(Step::Finish)
+        self.checkpoint_step(Step::Map)?;
+        self.checkpoint_step(Step::Finish)
     }
 
     // Carries the checkpoints that have begun to their end: at most three areas stand before the last.
@@ -251,7 +251,7 @@ impl<B: BoardName, D: Disk> Export<B, D> {
         leads_law::<D>();
         schedule_law();
         self.complete_checkpoint()?;
-        self.turn(Step::Rotate)?;
+        self.checkpoint_step(Step::Rotate)?;
         self.complete_checkpoint()?;
         let_go(self.store_step(Step::Clean));
         Ok(())
@@ -276,7 +276,7 @@ impl<B: BoardName, D: Disk> Export<B, D> {
         let sealed = self.store_step(Step::Seal);
         let appended = self.store_step(Step::Append);
         let published = self.store_step(Step::Publish);
-        let fits = stored(&sealed, &appended, &published);
+        let fits = fits_area(&sealed, &appended, &published);
         let_go(sealed);
         let_go(appended);
         let_go(published);

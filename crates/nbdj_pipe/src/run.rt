@@ -225,7 +225,7 @@ fn report_json(alloc: Global, report: &Report) -> Result<Value, AllocError> {
     json!(in alloc; {
         "layout": if report.layout == Layout::Two { 2 } else { 1 },
         "blocks": report.blocks,
-        "mode": report.in_front,
+        "mode": report.before_last,
         "base": report.base,
         "commands": report.commands,
         "data": report.data_blocks,
@@ -238,7 +238,7 @@ fn report_json(alloc: Global, report: &Report) -> Result<Value, AllocError> {
 fn counts_of(report: &Report) -> [(&'static str, u64); 7] {
     [
         ("blocks", report.blocks),
-        ("mode", u64::from(report.in_front)),
+        ("mode", u64::from(report.before_last)),
         ("base", report.base),
         ("commands", report.commands),
         ("data", report.data_blocks),

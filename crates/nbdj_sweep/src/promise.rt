@@ -24,7 +24,7 @@ pub struct Promise {
 
 impl Promise {
     /// What these lives of a device promise.
-    pub fn of(alloc: Global, lives: &[PlayedLife], mode: Mode) -> Result<Promise, AllocError> {
+    pub fn new(alloc: Global, lives: &[PlayedLife], mode: Mode) -> Result<Promise, AllocError> {
         let mut reading = Reading {
             mode,
             open: Vec::new(alloc),

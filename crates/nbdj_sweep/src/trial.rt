@@ -81,7 +81,7 @@ impl Trial {
             upgrade_failed: _,
         } = self.play(work, trouble, usize::MAX)?;
         let met = is_met(trouble, &disk);
-        let promise = Promise::of(self.alloc, &lives, self.schedule.setup.mode)?;
+        let promise = Promise::new(self.alloc, &lives, self.schedule.setup.mode)?;
         disk.crash(choice);
         self.found.restore(&disk);
         let Judged { disk, right } = judge(self.alloc, disk, &self.found, choice, &promise)?;

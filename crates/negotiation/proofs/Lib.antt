@@ -1,8 +1,8 @@
 mod Sessions
-mod Filling
+mod ReadIntoRoom
 mod Answering
 mod DataFilled
 mod Hearing
 mod OneDialog
 mod Serving
-mod Transmitting
+mod AfterHandshake

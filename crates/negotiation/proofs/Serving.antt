@@ -21,7 +21,7 @@ use Rattle.negotiation.specs.Streams.{IsEarly}
 use Rattle.negotiation.specs.Talk.{AreSteps, talk_text}
 use Rattle.nbd_wire.specs.laws.Bytes.{appends_none, appends_on, consumes_none, consumes_on}
 use Rattle.negotiation.proofs.Hearing.{due_said, timely_on}
-use Rattle.negotiation.proofs.Transmitting.{behind_said, early_ends, front_none}
+use Rattle.negotiation.proofs.AfterHandshake.{behind_said, early_ends, front_none}
 
 -- where nothing was said no option was heard
 follows_silent : (next : Next) (agreed : Agreed) (rest : List ℕ) (turns : List Turn) (outcome : Outcome) (P : Type 0) → outcome.standing ≡ silent → (P → ⊥) → Follows next agreed rest turns outcome P → ⊥

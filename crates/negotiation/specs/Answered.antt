@@ -1,4 +1,4 @@
--- What an option is answered, by what the session has agreed on (docs/FORMATS.md, "Answers to options").
+-- What an option is answered, by what the session has agreed on (docs/FORMATS.md, "Handshake").
 use Rattle.std.specs.Prelude.{◌≡◌, ◌⊎◌, ℕ, ◌*◌, ◌<◌, ◌^◌, Bool, true, false, not, ◌==◌, ◌||◌, if◌then◌else◌, List, [], ◌∷◌, ◌++◌, length, codes, Option, Some, None}
 use Rattle.std.specs.List.{AllByRecursion, flat_map, list_any}
 use Rattle.std.specs.Str.{bytes_eq}
@@ -83,7 +83,7 @@ named agreed offer name =
     record { replies = []; export = Some (export_answer offer agreed); agreed = agreed; next = behind.Transmission }
     else record { replies = []; export = None; agreed = agreed; next = behind.Fault }
 
--- An INFO, or a GO, which next comes after. Who asks for the sizes of blocks is told them.
+-- An INFO, or a GO, which next comes after. A client that asks for the sizes of blocks is told them.
 abbrev pub informed : Agreed → Offer → InfoAsked → Next → Answered
 informed agreed offer asked next =
     if is_export offer asked.name then

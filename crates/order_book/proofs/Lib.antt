@@ -1,14 +1,14 @@
 mod ExcludedRefusals
 mod Edges
 mod Editing
-mod Filled
+mod CacheKeepsReads
 mod Frames
 mod KeeperRefusalHandedOn
 mod ReadsShowImage
 mod KeepingBlocks
 mod Maps
-mod Missing
-mod Sealed
+mod BlocksInMemory
+mod GroupThatWasSealed
 mod CacheShowsImage
 mod CommandsFitGroup
 mod OrderKeepsRest

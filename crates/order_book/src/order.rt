@@ -456,7 +456,7 @@ impl<B: BoardName> Order<B> {
         let first = self.sealed + 1;
         self.sealed += count as u64;
         self.in_hand = count;
-        Ok(Some(Group::of(first, commands)))
+        Ok(Some(Group::new(first, commands)))
     }
 
     // The most bytes of a group's body.

@@ -21,7 +21,7 @@ pub struct Regions {
 
 impl Regions {
     /// The regions of a device with these sizes.
-    pub fn of(geometry: &Geometry) -> Regions
+    pub fn from_geometry(geometry: &Geometry) -> Regions
         ensures { result.geometry ≡ geometry.now }
     {
         Regions {

@@ -26,7 +26,7 @@ use Rattle.request_core.specs.Outcomes.{IsEditRefused}
 use Rattle.request_core.specs.Reading.{IsUnread}
 use Rattle.request_core.specs.Serving.{IsAcceptedFor, IsAnsweredFor, IsPassServed, IsRoom, IsShownTo, IsTaken, served_after}
 use Rattle.request_core.specs.declared.serving.Served.{Served}
-use Rattle.request_core.proofs.Olds.{takes_there}
+use Rattle.request_core.proofs.OldBytesTaken.{takes_there}
 use Rattle.export_model.specs.Log.{edit_asked, is_flush, waits_for_store}
 use Rattle.export_model.specs.Serve.{covers_data_in_part, takes_old_bytes}
 use Rattle.export_model.specs.declared.step.Mode.{Mode}

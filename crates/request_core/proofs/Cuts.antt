@@ -11,7 +11,7 @@ use Rattle.alloc_map.specs.declared.run.Run.{Run as Stretch}
 use Rattle.nbd_wire.specs.Answer.{DiffersFrom, IsInState, IsJoined, PartsBytes}
 use Rattle.nbd_wire.specs.declared.message.Run.{Run}
 use Rattle.export_model.specs.Shown.{cut_behind, cut_front, runs_from, status_of, with_block}
-use Rattle.request_core.proofs.Joined.{run_of}
+use Rattle.request_core.proofs.RunsGrow.{run_of}
 use Rattle.request_core.proofs.Stretches.{as_run}
 
 zeros_parts : (first rest : List ℕ) → first ++ rest ≡ replicate (length (first ++ rest)) 0

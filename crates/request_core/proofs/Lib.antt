@@ -3,9 +3,9 @@ mod Clients
 mod Cuts
 mod ServedWithoutKeeper
 mod InMemory
-mod Joined
-mod Needing
-mod Olds
+mod RunsGrow
+mod WhoNeedsDevice
+mod OldBytesTaken
 mod FreshOrderShows
 mod AcceptedEdits
 mod Parts

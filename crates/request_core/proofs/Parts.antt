@@ -7,7 +7,7 @@ use Rattle.std.proofs.lemmas.List.{drop-drop, replicate-append-replicate}
 use Rattle.nbd_wire.specs.Answer.{DiffersFrom, IsInState, IsJoined, PartsBytes}
 use Rattle.nbd_wire.specs.declared.message.Run.{Run}
 use Rattle.export_model.specs.Shown.{runs_from, with_block}
-use Rattle.request_core.proofs.Joined.{run_of}
+use Rattle.request_core.proofs.RunsGrow.{run_of}
 
 -- what holds of both sides of a choice holds of the choice
 of_either : {X : Type 0} (P : X → Type 0) (test : Bool) (x y : X) → (test ≡ true → P x) → (test ≡ false → P y) → P (if test then x else y)

@@ -9,7 +9,7 @@ use Rattle.image_model.specs.declared.command.Kind.{Kind}
 use Rattle.image_model.specs.declared.command.Kind.TheVariants.{Data, Zero, Hole}
 use Rattle.nbd_wire.specs.declared.message.Run.{Run}
 use Rattle.export_model.specs.Shown.{runs_from, status_of, with_block}
-use Rattle.request_core.proofs.Joined.{run_of}
+use Rattle.request_core.proofs.RunsGrow.{run_of}
 
 -- a stretch as a run of its status
 abbrev pub as_run : Stretch → Run

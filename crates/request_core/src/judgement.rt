@@ -9,7 +9,7 @@ use nbd_wire::{
     SessionFlags, TRIM, WRITE, WRITE_ZEROES,
 };
 
-/// Judges a request by the rules of `docs/FORMATS.md`, "Judgement": the first that applies decides.
+/// Judges a request by the rules of `docs/FORMATS.md`, "Validation": the first that applies decides.
 pub fn judge(head: &RequestHead, geometry: &Geometry, flags: &SessionFlags) -> Result<Action, Errno>
     ensures verdict { result ≡ verdict head.now geometry.now flags.now }
     ensures end { result ≡ Ok Action.End → head.now.kind ≡ 2 }

@@ -30,7 +30,7 @@ pub struct Blocks {
 
 impl Blocks {
     /// Those of a request of at least one byte.
-    pub fn of(head: &RequestHead) -> Blocks
+    pub fn from_head(head: &RequestHead) -> Blocks
         requires { head.now.offset + head.now.length < 2 ^ 64 }
         ensures first { result.first ≡ head.now.offset / 4096 }
         ensures count { result.count ≡ blocks_met head.now.offset head.now.length }
@@ -81,7 +81,7 @@ pub(crate) fn serve_held_read<B: BoardName>(
     let Ok(runs) = read_runs(alloc, order, head.offset, head.length) else {
         return refuse(head.cookie, Errno::NoMemory);
     };
-    let blocks = Blocks::of(head);
+    let blocks = Blocks::from_head(head);
     let Ok(mut bytes) = vec![in alloc; 0; blocks.bytes()] else {
         return refuse(head.cookie, Errno::NoMemory);
     };
@@ -115,7 +115,7 @@ pub(crate) fn serve_read<B: BoardName, D: Disk>(
     let Ok(runs) = read_runs(alloc, order, head.offset, head.length) else {
         return refuse(head.cookie, Errno::NoMemory);
     };
-    let blocks = Blocks::of(head);
+    let blocks = Blocks::from_head(head);
     let Ok(mut bytes) = vec![in alloc; 0; blocks.bytes()] else {
         return refuse(head.cookie, Errno::NoMemory);
     };
@@ -164,7 +164,7 @@ pub fn plan_read<B: BoardName>(head: &RequestHead, order: &Order<B>, terms: &Ter
     }
     match judge(head, &terms.geometry, &terms.flags) {
         Ok(Action::Serve) => {
-            let blocks = Blocks::of(head);
+            let blocks = Blocks::from_head(head);
             Some(order.missing(blocks.first, blocks.count))
         }
         Ok(Action::End) | Err(_) => None,

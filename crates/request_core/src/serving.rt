@@ -118,7 +118,7 @@ fn serve_passed<B: BoardName, T: Trust>(
     match head.kind {
         FLUSH => Ok(answer_flush(&head, terms.mode, order.await_mark(board, pass))),
         READ => {
-            let blocks = Blocks::of(&head);
+            let blocks = Blocks::from_head(&head);
             if order.holds(blocks.first, blocks.count) {
                 Ok(serve_held_read(alloc, &head, order))
             } else {

@@ -78,7 +78,7 @@ module _ {D : Type 0} (keeper : KeeperState D) (disk : D) (state : State) where
   unfolding keeps_with
   holds_with base fronts last holds = record {
     keeps = keeps_with _ _ holds.keeps;
-    in_front = holds.in_front;
+    before_last = holds.before_last;
     in_last = holds.in_last;
     is_base = holds.is_base;
   }

@@ -1,2 +1,2 @@
-mod Served
+mod DeviceAfterServing
 mod Sessions

@@ -27,7 +27,7 @@ use std::sync::{Mutex, Wait};
 enum Sessions {
     // Any number.
     Endless,
-    // So many.
+    // This many.
     Left(u64),
 }
 
@@ -64,7 +64,7 @@ pub(crate) struct WorkerPool<'a, B: ServerName> {
 }
 
 impl<'a, B: ServerName> WorkerPool<'a, B> {
-    /// For so many sessions; 0 for no end. The last of the passes is that of whoever has all stored.
+    /// `sessions` is how many it serves, 0 for no limit. The last of the passes is for the caller, who has all stored at the end.
     pub(crate) fn new<D: Disk, H: ReadUnlocked, T: Trust, R: Wait>(
         rt: &R,
         alloc: Global,
@@ -111,7 +111,7 @@ impl<'a, B: ServerName> WorkerPool<'a, B> {
         }
     }
 
-    /// Takes a pass for good, from the worker of a slot that takes no more clients; whether it was the last one.
+    /// Takes back the pass of a slot whose worker takes no more clients; whether it was the last one.
     pub(crate) fn retire<D: Disk, H: ReadUnlocked, T: Trust, R: Wait>(
         &self,
         rt: &R,
@@ -306,7 +306,7 @@ impl<
         self.retire(slot, pass);
     }
 
-    /// Takes a pass for good. With the last one nobody asks for figures any more.
+    /// Takes a pass back. After the last one nobody asks for figures any more.
     pub(crate) fn retire(&self, slot: usize, pass: SessionPass<B>) {
         if self.pool.retire(self.rt, self.export, slot, pass) {
             self.watch.end_answers();

@@ -6,7 +6,7 @@ pub struct FailsOnce<S> {
     pub stream: S,
     before: usize,
     failed: bool,
-    behind: usize,
+    calls_after: usize,
 }
 
 // Written out, it is proved once, and not again in each function that lets such a value go.
@@ -16,7 +16,7 @@ impl<S: Drop> Drop for FailsOnce<S> {
             stream: _,
             before: _,
             failed: _,
-            behind: _,
+            calls_after: _,
         } = self;
     }
 }
@@ -28,7 +28,7 @@ impl<S> FailsOnce<S> {
             stream,
             before,
             failed: false,
-            behind: 0,
+            calls_after: 0,
         }
     }
 
@@ -38,14 +38,14 @@ impl<S> FailsOnce<S> {
     }
 
     /// How many calls came after it.
-    pub fn behind(&self) -> usize {
-        self.behind
+    pub fn calls_after(&self) -> usize {
+        self.calls_after
     }
 
     // Whether this call fails.
     fn is_now(&mut self) -> bool {
         if self.failed {
-            self.behind = self.behind.saturating_add(1);
+            self.calls_after = self.calls_after.saturating_add(1);
             return false;
         }
         self.failed = self.before == 0;

@@ -160,7 +160,10 @@ fn is_over_at_read(rt: &impl Abort, alloc: Global, reads: usize) -> Result<(), F
     let mut writer = FakeWriter::new(alloc, MANY, MANY);
     let (end, _) = serve_over(alloc, &mut reader, &mut writer)?;
     let taken = writer.taken();
-    assert!(rt; end == Err(End::IoFault) && reader.behind() == 0, "{reads}");
+    assert!(rt;
+        end == Err(End::IoFault) && reader.calls_after() == 0,
+        "{reads}"
+    );
     assert!(rt;
         taken.len() == due_at(reads.saturating_mul(7)) && output(alloc)?.starts_with(taken),
         "{reads}"
@@ -189,7 +192,7 @@ fn is_over_at_write(rt: &impl Abort, alloc: Global, writes: usize) -> Result<boo
     } else {
         Ok(())
     };
-    assert!(rt; end == wanted && writer.behind() == 0, "{writes}");
+    assert!(rt; end == wanted && writer.calls_after() == 0, "{writes}");
     assert!(rt;
         output(alloc)?.starts_with(writer.stream.taken()),
         "{writes}"

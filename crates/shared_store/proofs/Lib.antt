@@ -1,8 +1,8 @@
-mod Answering
+mod AnswersShowImage
 mod CleanBlocks
 mod StoredBeginsHistory
-mod Logging
-mod Noting
+mod LogAsksOrder
+mod BaseStaysNoted
 mod OrderKnowsHistory
-mod Resting
-mod Serving
+mod UnlockedReadPremises
+mod ServingKeepsHistory

@@ -23,7 +23,7 @@ impl<B: ImageName> Model for SealedGroup<B> {
 }
 
 impl<B: ImageName> SealedGroup<B> {
-    pub(crate) fn of(group: Group, told: Told<B>) -> SealedGroup<B>
+    pub(crate) fn new(group: Group, told: Told<B>) -> SealedGroup<B>
         requires { IsSealed B.opening B.image.blocks (record { group = group; told = told.history }) }
         ensures { result ≡ record { group = group; told = told.history } }
     {

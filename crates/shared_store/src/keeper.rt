@@ -128,10 +128,10 @@ impl<B: ImageName, D: Disk> SharedKeeper<B, D> {
                 Ok(())
             }
             Err((KeeperFault::NoMemory, group)) => {
-                Err(Unstored::NoMemory(SealedGroup::of(group, told)))
+                Err(Unstored::NoMemory(SealedGroup::new(group, told)))
             }
             Err((KeeperFault::AreaFull, group)) => {
-                Err(Unstored::AreaFull(SealedGroup::of(group, told)))
+                Err(Unstored::AreaFull(SealedGroup::new(group, told)))
             }
             Err((_, group)) => {
                 board.inform(&mut self.seat, told);

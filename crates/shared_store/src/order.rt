@@ -213,7 +213,7 @@ impl<B: ImageName> SharedOrder<B> {
             return Ok(None);
         };
         let told = self.order.note(board);
-        Ok(Some(SealedGroup::of(group, told)))
+        Ok(Some(SealedGroup::new(group, told)))
     }
 
     /// Makes a group pending again, the last that was sealed; another one comes back.
@@ -228,7 +228,7 @@ impl<B: ImageName> SharedOrder<B> {
     {
         let (group, told) = sealed.into_parts();
         if !self.order.is_in_hand(&group) {
-            return Err(SealedGroup::of(group, told));
+            return Err(SealedGroup::new(group, told));
         }
         self.order.compare(board, told);
         self.order.put_back(group);

@@ -64,7 +64,7 @@ fn put(alloc: Global, number: u32, byte: u8) -> Result<Group, AllocError> {
         first: 3,
         bytes: vec![in alloc; byte; 4096]?,
     })?;
-    Ok(Group::of(number as u64, commands))
+    Ok(Group::new(number as u64, commands))
 }
 
 // Adds a put of block 3 to the area that is found on the device.

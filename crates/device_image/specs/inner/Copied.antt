@@ -25,7 +25,7 @@ pub record IsMapStored (before : State) (place blocks : ℕ) (states : List Kind
   pub synced : IsAllSynced after
 
 -- after an area that begins at this place came into use: its first gate is closed, and this header is in force
-pub record IsTurnBegun (before : State) (extent from : ℕ) (header : Header) (slot : Side) (after : State) : Type 0 where
+pub record IsAreaStarted (before : State) (extent from : ℕ) (header : Header) (slot : Side) (after : State) : Type 0 where
   pub held : HoldsHeader after.seen extent header slot
   pub closed : slice_index after.seen from ≡ 0
   pub others : (place : ℕ) → 8192 ≤ place → place ≢ from → slice_index after.seen place ≡ slice_index before.seen place
@@ -33,7 +33,7 @@ pub record IsTurnBegun (before : State) (extent from : ℕ) (header : Header) (s
 
 -- what a crash may leave meanwhile: the header that was in force, in this slot, or, once the gate is closed, the new one;
 -- at other places what stood there and wasn't unsynced
-pub record LeavesTurn (before : State) (extent from : ℕ) (current : Header) (slot : Side) (header : Header) (content : List ℕ) : Type 0 where
+pub record LeavesAreaStart (before : State) (extent from : ℕ) (current : Header) (slot : Side) (header : Header) (content : List ℕ) : Type 0 where
   pub size : length content ≡ length before.seen
   pub others : (place : ℕ) → 8192 ≤ place → place ≢ from → (before.unsynced place → ⊥) → slice_index content place ≡ slice_index before.seen place
   pub either : HoldsHeader content extent current slot ⊎ ((slice_index content from ≡ 0) × HoldsHeader content extent header (other_of slot))

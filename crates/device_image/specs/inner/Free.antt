@@ -10,7 +10,7 @@ use Rattle.device_image.specs.Keeps.{IsCopyPlace}
 
 -- The place is in an area that isn't in use, after those that are, in the map slot that isn't in force, or in data that are to be copied.
 pub data IsFree (header : Header) (front : List (List StoredGroup)) (place : ℕ) : Type 0 where
-  in_spare_area : (places : ℕ) → header.in_front < places → places < areas_in header.geometry
+  in_spare_area : (places : ℕ) → header.before_last < places → places < areas_in header.geometry
       → InRange (area_at header.geometry (behind (areas_in header.geometry) places header.first_area)) (area_size header.geometry) place → IsFree header front place
   in_spare_map : InRange (map_at header.geometry (other_of header.map_slot)) (map_bytes_of header.geometry.blocks) place → IsFree header front place
   to_be_copied : IsCopyPlace header front place → IsFree header front place

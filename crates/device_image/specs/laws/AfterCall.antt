@@ -14,7 +14,7 @@ use Rattle.regions.specs.Layout.{area_at, block_at}
 use Rattle.device_image.specs.Holds.{HoldsAs, Holds, IsBase, is_written, joined}
 use Rattle.device_image.specs.Keeper.{earlier_of, phase_in, One, phase_of, KeeperState, PlanState, is_put}
 use Rattle.device_image.specs.Keeps.{AreHeld, Keeps, touched_first}
-use Rattle.device_image.specs.Stands.{all_changes, area_of, areas_in_front, next_number, stored_image}
+use Rattle.device_image.specs.Stands.{all_changes, area_of, areas_before_last, next_number, stored_image}
 use Rattle.device_image.specs.laws.Frame.{all_changes-append, apply_all-append, changes-append, image_kept, moved_list}
 use Rattle.device_image.specs.laws.HeaderReplaced.{taken_over}
 use Rattle.device_image.specs.laws.AfterWrite.{base_of, base_stays, holds_lists, joined_lists, made_blocks, made_byte, made_kind, unwritten_put}
@@ -35,7 +35,7 @@ module _ {D : Type 0} (keeper : KeeperState D) (before : State) (base : Image) (
   number = keeper.base + length (joined fronts) + length last
 
   pub front_changes : all_changes holds.keeps.areas.front ≡ joined fronts
-  front_changes = sym (joined_lists holds.keeps.areas.front) ∙ ap joined holds.in_front
+  front_changes = sym (joined_lists holds.keeps.areas.front) ∙ ap joined holds.before_last
 
   -- the blocks that no command of the areas in front writes have no put as their last touch there
   unwritten : (block : ℕ) → is_written block (joined fronts) ≡ false → is_put (last_touch block (touched_first holds.keeps.stands.header holds.keeps.areas.front)) ≡ false
@@ -53,7 +53,7 @@ module _ {D : Type 0} (keeper : KeeperState D) (before : State) (base : Image) (
       → slice_index after.seen (block_at holds.keeps.stands.header.geometry block + offset) ≡ slice_index before.seen (block_at holds.keeps.stands.header.geometry block + offset))
       → Holds now after base fronts last
   holds_still now after lists base_is geometry_is map_is same =
-      holds_lists now after image number holds.keeps.areas.front holds.keeps.areas.groups lists base fronts last refl (omega (arith, base_is)) holds.in_front holds.in_last
+      holds_lists now after image number holds.keeps.areas.front holds.keeps.areas.groups lists base fronts last refl (omega (arith, base_is)) holds.before_last holds.in_last
       (moved_base base after.seen keeper.geometry now.geometry keeper.memory.map now.memory.map (joined fronts) geometry_is map_is
       (base_stays base before.seen after.seen keeper.geometry keeper.memory.map (joined fronts) (joined fronts) holds.is_base (λ block none. none)
       (λ block offset small none. in_place after.seen block offset (same block offset small (unwritten block none)))))
@@ -68,7 +68,7 @@ module _ {D : Type 0} (keeper : KeeperState D) (before : State) (base : Image) (
       holds_lists now after (apply_all group.changes image) count holds.keeps.areas.front (holds.keeps.areas.groups ++ group ∷ []) lists base fronts (last ++ group.changes)
       (sym (apply_all-append last group.changes (apply_all (joined fronts) base)))
       (omega (arith, count_is, base_is, length-append last group.changes))
-      holds.in_front
+      holds.before_last
       (changes-append holds.keeps.areas.groups (group ∷ []) ∙ ap (λ (more : List Change). changes_of holds.keeps.areas.groups ++ more) (append-nil group.changes)
       ∙ ap (λ (more : List Change). more ++ group.changes) holds.in_last)
       (moved_base base after.seen keeper.geometry now.geometry keeper.memory.map now.memory.map (joined fronts) geometry_is map_is
@@ -101,7 +101,7 @@ holds_begun keeper before base fronts last holds now after lists base_is geometr
     holds_lists now after (apply_all last (apply_all (joined fronts) base)) (keeper.base + length (joined fronts) + length last) (holds.keeps.areas.front ++ holds.keeps.areas.groups ∷ []) [] lists base (fronts ++ last ∷ []) []
     (sym (apply_all-append (joined fronts) last base) ∙ ap (λ (changes : List Change). apply_all changes base) (sym more))
     (omega (arith, base_is, ap length more, length-append (joined fronts) last))
-    (changes-push holds.keeps.areas.front holds.keeps.areas.groups ∙ (λ i. holds.in_front i ++ holds.in_last i ∷ [])) refl
+    (changes-push holds.keeps.areas.front holds.keeps.areas.groups ∙ (λ i. holds.before_last i ++ holds.in_last i ∷ [])) refl
     (moved_base base after.seen keeper.geometry now.geometry keeper.memory.map now.memory.map (joined (fronts ++ last ∷ [])) geometry_is map_is
     (base_stays base before.seen after.seen keeper.geometry keeper.memory.map (joined fronts) (joined (fronts ++ last ∷ [])) holds.is_base was
     (λ block offset small none. in_place keeper before base fronts last holds after.seen block offset (same block offset small (unwritten keeper before base fronts last holds block (was block none))))))
@@ -150,7 +150,7 @@ holds_ended keeper before base first others last holds plan rest is after mapped
     let image = apply_all last (apply_all (first ++ joined others) base) in
     let number = keeper.base + length (first ++ joined others) + length last in
     let several = parts keeper before image number holds.keeps plan rest is after mapped in
-    let are = first_changes holds.keeps.areas.front several.first several.others first others several.is holds.in_front in
+    let are = first_changes holds.keeps.areas.front several.first several.others first others several.is holds.before_last in
     let held : IsBase base before.seen holds.keeps.stands.header.geometry holds.keeps.stands.states (changes_of several.first ++ joined others) =
     subst (λ (c : List Change). IsBase base before.seen holds.keeps.stands.header.geometry holds.keeps.stands.states (c ++ joined others)) (sym are.0)
     (moved_base base before.seen keeper.geometry holds.keeps.stands.header.geometry keeper.memory.map holds.keeps.stands.states (first ++ joined others) (sym holds.keeps.sizes) (sym holds.keeps.mapped) holds.is_base) in
@@ -173,7 +173,7 @@ pub one_in_use : {D : Type 0} (keeper : KeeperState D) (state : State) (base : I
 one_in_use keeper state base last holds =
     let keeps = holds.keeps in
     keeps.phase
-    ∙ ap phase_of (no_plans (areas_in_front keeps.stands.header) keeps.stands.header.geometry (next_number keeps.stands.header.base) keeps.areas.front keeper.memory.plans state keeps.areas.earlier_held holds.in_front)
+    ∙ ap phase_of (no_plans (areas_before_last keeps.stands.header) keeps.stands.header.geometry (next_number keeps.stands.header.base) keeps.areas.front keeper.memory.plans state keeps.areas.earlier_held holds.before_last)
 
 module _ {D : Type 0} (keeper : KeeperState D) (state : State) (image : Image) (number : ℕ) (keeps : Keeps keeper state image number) where
   phase_one : (plans : List PlanState) → phase_of plans ≡ One → plans ≡ []
@@ -187,8 +187,8 @@ module _ {D : Type 0} (keeper : KeeperState D) (state : State) (image : Image) (
   pub front_empty : keeper.phase ≡ One → keeps.areas.front ≡ []
   front_empty is =
       let none = phase_one keeper.memory.plans (sym keeps.phase ∙ is) in
-      front_none (areas_in_front keeps.stands.header) keeps.stands.header.geometry (next_number keeps.stands.header.base) keeps.areas.front state
-      (subst (λ (p : List PlanState). AreHeld (areas_in_front keeps.stands.header) keeps.stands.header.geometry (next_number keeps.stands.header.base) keeps.areas.front (earlier_of p) state) none keeps.areas.earlier_held)
+      front_none (areas_before_last keeps.stands.header) keeps.stands.header.geometry (next_number keeps.stands.header.base) keeps.areas.front state
+      (subst (λ (p : List PlanState). AreHeld (areas_before_last keeps.stands.header) keeps.stands.header.geometry (next_number keeps.stands.header.base) keeps.areas.front (earlier_of p) state) none keeps.areas.earlier_held)
 
   abbrev stored : Image
   stored = stored_image state.seen keeps.stands.header.geometry keeps.stands.states
@@ -224,7 +224,7 @@ module _ {D : Type 0} (keeper : KeeperState D) (state : State) (image : Image) (
         number_is = number_is;
         one = λ is. ap (map changes_of) (front_empty is);
         several = λ none. keeps.phase
-            ∙ ap phase_of (no_plans (areas_in_front keeps.stands.header) keeps.stands.header.geometry (next_number keeps.stands.header.base) keeps.areas.front keeper.memory.plans state keeps.areas.earlier_held none);
+            ∙ ap phase_of (no_plans (areas_before_last keeps.stands.header) keeps.stands.header.geometry (next_number keeps.stands.header.base) keeps.areas.front keeper.memory.plans state keeps.areas.earlier_held none);
       }
 
   -- the keeper that holds what makes the same image keeps it

@@ -20,7 +20,7 @@ use Rattle.regions.specs.Layout.{area_at, areas_in, block_at, ring}
 use Rattle.device_image.specs.Holds.{Holds, IsBase, is_written, joined}
 use Rattle.device_image.specs.Keeper.{KeeperState, is_put}
 use Rattle.device_image.specs.Keeps.{Keeps, touched_first}
-use Rattle.device_image.specs.Stands.{HoldLists, all_changes, area_of, areas_in_front, is_data, stored_image}
+use Rattle.device_image.specs.Stands.{HoldLists, all_changes, area_of, areas_before_last, is_data, stored_image}
 use Rattle.device_image.specs.laws.Frame.{blocks-apply_all}
 use Rattle.device_image.specs.laws.Kept.{held}
 use Rattle.device_image.specs.laws.Lists.{KeepsLists}
@@ -37,11 +37,11 @@ first_list count zero side geometry content next groups front held = absurd held
 first_list count (suc n) side geometry content next groups front held = held.0
 
 -- a block that no command of the areas in front writes isn't copied
-unwritten_first : (header : Header) (front : List (List StoredGroup)) (content : List ℕ) (next block : ℕ) → HoldLists (areas_in_front header) content header.geometry next front
+unwritten_first : (header : Header) (front : List (List StoredGroup)) (content : List ℕ) (next block : ℕ) → HoldLists (areas_before_last header) content header.geometry next front
     → is_written block (all_changes front) ≡ false → is_put (last_touch block (touched_first header front)) ≡ false
 unwritten_first header [] content next block holds none = refl
 unwritten_first header (groups ∷ front) content next block holds none =
-    (groups_touched header.geometry.blocks block content (area_at header.geometry header.first_area) next groups (first_list (areas_in header.geometry) header.in_front header.first_area header.geometry content next groups front holds).stand).put
+    (groups_touched header.geometry.blocks block content (area_at header.geometry header.first_area) next groups (first_list (areas_in header.geometry) header.before_last header.first_area header.geometry content next groups front holds).stand).put
     ∙ never_written block (changes_of groups) (or_left _ _ (sym (written_append block (changes_of groups) (all_changes front)) ∙ none))
 
 pub unwritten_put : {D : Type 0} (keeper : KeeperState D) (state : State) (image : Image) (number : ℕ) (keeps : Keeps keeper state image number) (block : ℕ)
@@ -70,7 +70,7 @@ holds_lists now after image number front groups lists base fronts last image_is 
     let told = subst (λ (n : ℕ). KeepsLists now after (apply_all last (apply_all (joined fronts) base)) n front groups) number_is (subst (λ (i : Image). KeepsLists now after i number front groups) image_is lists) in
     record {
       keeps = told.keeps;
-      in_front = ap (map changes_of) told.front_is ∙ front_is;
+      before_last = ap (map changes_of) told.front_is ∙ front_is;
       in_last = ap changes_of told.groups_are ∙ groups_are;
       is_base = is_base;
     }

@@ -18,14 +18,14 @@ use Rattle.journal_format.specs.declared.touch.Touch.TheVariants.{Put}
 use Rattle.journal_format.specs.declared.touch.TouchedRange.{TouchedRange}
 use Rattle.regions.specs.Layout.{area_at, area_size, areas_in, behind, block_at, next_of, ring}
 use Rattle.regions.specs.laws.Ring.{area_high, area_low, behind_apart, behind_below, next_below, ring-last}
-use Rattle.device_image.specs.inner.Copied.{IsTurnBegun, LeavesTurn}
+use Rattle.device_image.specs.inner.Copied.{IsAreaStarted, LeavesAreaStart}
 use Rattle.device_image.specs.inner.Free.{IsFree, in_spare_area, to_be_copied}
 use Rattle.device_image.specs.Keeper.{AreStatesAfter, AreUncopied, IsPlanOf, IsRemembered, IsUncopied, KeeperState, PlanState, count_puts, earlier_of, is_put, last_number, phase_of}
 use Rattle.device_image.specs.Keeps.{AreHeld, IsCopying, IsInPhase, IsListed, IsMapWritten, IsPlaced, Keeps, behind_lists, touched_first}
-use Rattle.device_image.specs.Stands.{StandsFor, HoldLists, all_changes, areas_in_front, in_use, last_area, next_number, stored_image}
+use Rattle.device_image.specs.Stands.{StandsFor, HoldLists, all_changes, areas_before_last, in_use, last_area, next_number, stored_image}
 use Rattle.device_image.specs.laws.Copied.{phase_on}
 use Rattle.device_image.specs.laws.Frame.{last_inside, moved_list, one_kept}
-use Rattle.device_image.specs.laws.Free.{area_same, areas_same, in_front_used, ring_inside, stands_still}
+use Rattle.device_image.specs.laws.Free.{area_same, areas_same, before_last_used, ring_inside, stands_still}
 use Rattle.device_image.specs.laws.HeaderReplaced.{areas_above, begins_turn, ends_turn, follows}
 use Rattle.device_image.specs.laws.Headers.{begun, ended}
 use Rattle.device_image.specs.laws.Kept.{held as fronts_held}
@@ -141,12 +141,12 @@ uncopied_phase count n header (plan ∷ plans) next front state states held are 
     (uncopied_copying count n header plan next front (earlier_of plans) state states held are.0, are.1)
 
 -- the checkpoint of the first area goes on where another one comes into use
-map_grown : (header : Header) (room : suc header.in_front < areas_in header.geometry) (mapped : Option (List Kind)) (state : State) (states : List Kind) (groups : List StoredGroup) (front more : List (List StoredGroup)) (left : ℕ)
+map_grown : (header : Header) (room : suc header.before_last < areas_in header.geometry) (mapped : Option (List Kind)) (state : State) (states : List Kind) (groups : List StoredGroup) (front more : List (List StoredGroup)) (left : ℕ)
     → IsMapWritten mapped state header states (groups ∷ front) left → IsMapWritten mapped state (begun header room) states (groups ∷ front ++ more) left
 map_grown header room None state states groups front more left written = tt
 map_grown header room (Some after) state states groups front more left written = written
 
-copying_grown : (areas : List ℕ) (header : Header) (room : suc header.in_front < areas_in header.geometry) (plan : PlanState) (state : State) (states : List Kind) (next : ℕ) (front more : List (List StoredGroup)) (earlier : List AreaState)
+copying_grown : (areas : List ℕ) (header : Header) (room : suc header.before_last < areas_in header.geometry) (plan : PlanState) (state : State) (states : List Kind) (next : ℕ) (front more : List (List StoredGroup)) (earlier : List AreaState)
     → AreHeld areas header.geometry next front (plan.first ∷ earlier) state → IsCopying plan state header states front → IsCopying plan state (begun header room) states (front ++ more)
 copying_grown [] header room plan state states next [] more earlier held copying = absurd held
 copying_grown [] header room plan state states next (groups ∷ front) more earlier held copying = absurd held
@@ -158,20 +158,20 @@ copying_grown (area ∷ areas) header room plan state states next (groups ∷ fr
   map_written = map_grown header room plan.mapped state states groups front more plan.left copying.map_written;
 }
 
-phase_grown : (count : ℕ) (header : Header) (room : suc header.in_front < areas_in header.geometry) (plans : List PlanState) (plan : PlanState) (state : State) (states : List Kind) (next : ℕ) (front : List (List StoredGroup)) (groups : List StoredGroup)
-    → AreHeld (ring count header.in_front header.first_area) header.geometry next front (earlier_of plans) state
-    → AreHeld (ring count (suc header.in_front) header.first_area) header.geometry next (front ++ groups ∷ []) (earlier_of (plans ++ plan ∷ [])) state
+phase_grown : (count : ℕ) (header : Header) (room : suc header.before_last < areas_in header.geometry) (plans : List PlanState) (plan : PlanState) (state : State) (states : List Kind) (next : ℕ) (front : List (List StoredGroup)) (groups : List StoredGroup)
+    → AreHeld (ring count header.before_last header.first_area) header.geometry next front (earlier_of plans) state
+    → AreHeld (ring count (suc header.before_last) header.first_area) header.geometry next (front ++ groups ∷ []) (earlier_of (plans ++ plan ∷ [])) state
     → IsInPhase plans state header states front → IsUncopied plan → IsInPhase (plans ++ plan ∷ []) state (begun header room) states (front ++ groups ∷ [])
 phase_grown count header room [] plan state states next front groups held grown phased is =
-    uncopied_phase count (suc header.in_front) (begun header room) (plan ∷ []) next (front ++ groups ∷ []) state states grown (is, tt)
+    uncopied_phase count (suc header.before_last) (begun header room) (plan ∷ []) next (front ++ groups ∷ []) state states grown (is, tt)
 phase_grown count header room (first ∷ plans) plan state states next front groups held grown phased is =
-    (copying_grown (ring count header.in_front header.first_area) header room first state states next front (groups ∷ []) (earlier_of plans) held phased.0, uncopied_more plans plan phased.1 is)
+    (copying_grown (ring count header.before_last header.first_area) header room first state states next front (groups ∷ []) (earlier_of plans) held phased.0, uncopied_more plans plan phased.1 is)
 
 -- another area comes into use
-module _ {D : Type 0} (keeper : KeeperState D) (before : State) (image : Image) (number : ℕ) (keeps : Keeps keeper before image number) (room : suc keeps.stands.header.in_front < areas_in keeps.stands.header.geometry)
+module _ {D : Type 0} (keeper : KeeperState D) (before : State) (image : Image) (number : ℕ) (keeps : Keeps keeper before image number) (room : suc keeps.stands.header.before_last < areas_in keeps.stands.header.geometry)
     (extent : ℕ) (sound : IsSound extent before) (positive : 0 < area_size keeps.stands.header.geometry) where
   abbrev pub next_area : ℕ
-  next_area = behind (areas_in keeps.stands.header.geometry) (suc keeps.stands.header.in_front) keeps.stands.header.first_area
+  next_area = behind (areas_in keeps.stands.header.geometry) (suc keeps.stands.header.before_last) keeps.stands.header.first_area
 
   abbrev pub next_from : ℕ
   next_from = area_at keeps.stands.header.geometry next_area
@@ -183,7 +183,7 @@ module _ {D : Type 0} (keeper : KeeperState D) (before : State) (image : Image) 
 
     pub free_same : (place : ℕ) → 8192 ≤ place → (IsFree keeps.stands.header keeps.areas.front place → ⊥) → slice_index content place ≡ slice_index before.seen place
     free_same place above used = same place above
-        (λ is. used (in_spare_area (suc keeps.stands.header.in_front) (omega arith) room (omega (arith, is), omega (arith, is, positive))))
+        (λ is. used (in_spare_area (suc keeps.stands.header.before_last) (omega arith) room (omega (arith, is), omega (arith, is, positive))))
         (λ unsynced. used (to_be_copied (keeps.unsynced place unsynced)))
 
     abbrev pub stands_begun : (slot : Side) → slice_index content next_from ≡ 0 → HoldsHeader content extent (begun keeps.stands.header room) slot → StandsFor content image number
@@ -197,27 +197,27 @@ module _ {D : Type 0} (keeper : KeeperState D) (before : State) (image : Image) 
         stands_still before.seen content image number keeps.stands keeps.areas.front keeps.areas.groups keeps.areas.are free_same (fronts_held keeper before image number keeps)
         (subst (λ (n : ℕ). HoldsHeader content n keeps.stands.header keeps.stands.slot) (sym long) in_force)
 
-  pub begin_left : (content : List ℕ) → LeavesTurn before extent next_from keeps.stands.header keeps.stands.slot (begun keeps.stands.header room) content → StandsFor content image number
+  pub begin_left : (content : List ℕ) → LeavesAreaStart before extent next_from keeps.stands.header keeps.stands.slot (begun keeps.stands.header room) content → StandsFor content image number
   begin_left content left = ⊎_elim
       (λ held. stands_before content left.size left.others held)
       (λ new. stands_begun content left.size left.others (other_of keeps.stands.slot) new.0 new.1)
       left.either
 
   -- once it is in use
-  module _ (after : State) (after_sound : IsSound extent after) (begun_is : IsTurnBegun before extent next_from (begun keeps.stands.header room) (other_of keeps.stands.slot) after) where
+  module _ (after : State) (after_sound : IsSound extent after) (begun_is : IsAreaStarted before extent next_from (begun keeps.stands.header room) (other_of keeps.stands.slot) after) where
     size_after : length after.seen ≡ length before.seen
     size_after = after_sound.size ∙ sym sound.size
 
     used_same : (place : ℕ) → 8192 ≤ place → (IsFree keeps.stands.header keeps.areas.front place → ⊥) → slice_index after.seen place ≡ slice_index before.seen place
     used_same place above used = begun_is.others place above
-        (λ is. used (in_spare_area (suc keeps.stands.header.in_front) (omega arith) room (omega (arith, is), omega (arith, is, positive))))
+        (λ is. used (in_spare_area (suc keeps.stands.header.before_last) (omega arith) room (omega (arith, is), omega (arith, is, positive))))
 
-    fronts_after : AreHeld (areas_in_front keeps.stands.header) keeps.stands.header.geometry (next_number keeps.stands.header.base) keeps.areas.front (earlier_of keeper.memory.plans) after
+    fronts_after : AreHeld (areas_before_last keeps.stands.header) keeps.stands.header.geometry (next_number keeps.stands.header.base) keeps.areas.front (earlier_of keeper.memory.plans) after
     fronts_after =
         let header = keeps.stands.header in
-        let inside = ring_inside header.geometry header.in_front header.first_area header.first_inside in
-        held_stay (areas_in_front header) header.geometry (next_number header.base) keeps.areas.front (earlier_of keeper.memory.plans) before after inside
-        (areas_same before.seen after.seen header keeps.areas.front used_same (areas_in_front header) inside (in_front_used header))
+        let inside = ring_inside header.geometry header.before_last header.first_area header.first_inside in
+        held_stay (areas_before_last header) header.geometry (next_number header.base) keeps.areas.front (earlier_of keeper.memory.plans) before after inside
+        (areas_same before.seen after.seen header keeps.areas.front used_same (areas_before_last header) inside (before_last_used header))
         (λ place below. begun_is.synced place) keeps.areas.earlier_held
 
     last_after : IsHeld keeper.memory.area (behind_lists (next_number keeps.stands.header.base) keeps.areas.front) keeps.areas.groups after
@@ -225,7 +225,7 @@ module _ {D : Type 0} (keeper : KeeperState D) (before : State) (image : Image) 
         let header = keeps.stands.header in
         one_kept keeper.memory.area header.geometry (last_area header) _ keeps.areas.groups before after keeps.areas.placed
         (area_same before.seen after.seen header keeps.areas.front used_same (last_area header) (last_inside header)
-        (λ places behind_it few. behind_apart (areas_in header.geometry) header.in_front places header.first_area header.first_inside behind_it few))
+        (λ places behind_it few. behind_apart (areas_in header.geometry) header.before_last places header.first_area header.first_inside behind_it few))
         (λ place here. begun_is.synced place) keeps.areas.held
 
     phase_after : IsInPhase keeper.memory.plans after keeps.stands.header keeps.stands.states keeps.areas.front
@@ -237,20 +237,20 @@ module _ {D : Type 0} (keeper : KeeperState D) (before : State) (image : Image) 
       where
         next_high : next_from + area_size keeps.stands.header.geometry ≤ 8192 + 2 * keeps.stands.header.geometry.area
         next_high = area_high keeps.stands.header.geometry next_area
-            (behind_below (areas_in keeps.stands.header.geometry) (suc keeps.stands.header.in_front) keeps.stands.header.first_area keeps.stands.header.first_inside)
+            (behind_below (areas_in keeps.stands.header.geometry) (suc keeps.stands.header.before_last) keeps.stands.header.first_area keeps.stands.header.first_inside)
 
         first_after : (place : ℕ) → InRange (area_at keeps.stands.header.geometry keeps.stands.header.first_area) (area_size keeps.stands.header.geometry) place → slice_index after.seen place ≡ slice_index before.seen place
         first_after = area_same before.seen after.seen keeps.stands.header keeps.areas.front used_same keeps.stands.header.first_area keeps.stands.header.first_inside
             (λ places behind_it few. behind_apart (areas_in keeps.stands.header.geometry) 0 places keeps.stands.header.first_area keeps.stands.header.first_inside (omega (arith, behind_it)) few)
 
     module _ (plan : PlanState) (plan_is : IsPlanOf keeper.memory.area plan) where
-      all_after : AreHeld (areas_in_front (begun keeps.stands.header room)) keeps.stands.header.geometry (next_number keeps.stands.header.base) (keeps.areas.front ++ keeps.areas.groups ∷ []) (earlier_of (keeper.memory.plans ++ plan ∷ [])) after
+      all_after : AreHeld (areas_before_last (begun keeps.stands.header room)) keeps.stands.header.geometry (next_number keeps.stands.header.base) (keeps.areas.front ++ keeps.areas.groups ∷ []) (earlier_of (keeper.memory.plans ++ plan ∷ [])) after
       all_after =
           let header = keeps.stands.header in
           let lists = keeps.areas.front ++ keeps.areas.groups ∷ [] in
-          subst (λ (areas : List ℕ). AreHeld areas header.geometry (next_number header.base) lists (earlier_of (keeper.memory.plans ++ plan ∷ [])) after) (sym (ring-last (areas_in header.geometry) header.in_front header.first_area))
-          (subst (λ (earlier : List AreaState). AreHeld (areas_in_front header ++ last_area header ∷ []) header.geometry (next_number header.base) lists earlier after) (sym (earlier-push keeper.memory.plans plan))
-          (held_more (areas_in_front header) (last_area header) header.geometry (next_number header.base) keeps.areas.front keeps.areas.groups (earlier_of keeper.memory.plans) plan.first after
+          subst (λ (areas : List ℕ). AreHeld areas header.geometry (next_number header.base) lists (earlier_of (keeper.memory.plans ++ plan ∷ [])) after) (sym (ring-last (areas_in header.geometry) header.before_last header.first_area))
+          (subst (λ (earlier : List AreaState). AreHeld (areas_before_last header ++ last_area header ∷ []) header.geometry (next_number header.base) lists earlier after) (sym (earlier-push keeper.memory.plans plan))
+          (held_more (areas_before_last header) (last_area header) header.geometry (next_number header.base) keeps.areas.front keeps.areas.groups (earlier_of keeper.memory.plans) plan.first after
           fronts_after (placed_of plan.first keeper.memory.area header.geometry (last_area header) plan_is.remembered keeps.areas.placed)
           (listed_of plan.first keeper.memory.area _ keeps.areas.groups after plan_is.remembered last_after)))
 
@@ -330,11 +330,11 @@ module _ {D : Type 0} (keeper : KeeperState D) (before : State) (image : Image) 
   pub written : IsMapWritten (Some after) before keeps.stands.header keeps.stands.states keeps.areas.front plan.left
   written = subst (λ (m : Option (List Kind)). IsMapWritten m before keeps.stands.header keeps.stands.states keeps.areas.front plan.left) mapped copying.0.map_written
 
-  abbrev pub held_before : AreHeld (areas_in_front keeps.stands.header) keeps.stands.header.geometry (next_number keeps.stands.header.base) keeps.areas.front (earlier_of (plan ∷ rest)) before
-  held_before = subst (λ (p : List PlanState). AreHeld (areas_in_front keeps.stands.header) keeps.stands.header.geometry (next_number keeps.stands.header.base) keeps.areas.front (earlier_of p) before) is keeps.areas.earlier_held
+  abbrev pub held_before : AreHeld (areas_before_last keeps.stands.header) keeps.stands.header.geometry (next_number keeps.stands.header.base) keeps.areas.front (earlier_of (plan ∷ rest)) before
+  held_before = subst (λ (p : List PlanState). AreHeld (areas_before_last keeps.stands.header) keeps.stands.header.geometry (next_number keeps.stands.header.base) keeps.areas.front (earlier_of p) before) is keeps.areas.earlier_held
 
-  pub many : keeps.stands.header.in_front ≡ suc (length rest)
-  many = fronts_many (areas_in keeps.stands.header.geometry) keeps.stands.header.in_front keeps.stands.header.first_area keeps.stands.header.geometry (next_number keeps.stands.header.base) keeps.areas.front (plan ∷ rest) before held_before
+  pub many : keeps.stands.header.before_last ≡ suc (length rest)
+  many = fronts_many (areas_in keeps.stands.header.geometry) keeps.stands.header.before_last keeps.stands.header.first_area keeps.stands.header.geometry (next_number keeps.stands.header.base) keeps.areas.front (plan ∷ rest) before held_before
 
   pub parts : AreSeveral keeps.stands.header keeps.areas.front plan rest before
   parts = several keeps.stands.header keeps.areas.front plan rest before
@@ -420,11 +420,11 @@ module _ {D : Type 0} (keeper : KeeperState D) (before : State) (image : Image) 
       let same : (place : ℕ) → 8192 ≤ place → slice_index state.seen place ≡ slice_index before.seen place = λ place above. in_place.others place above (keeps.steady place) in
       let held : HoldsHeader state.seen extent new (other_of keeps.stands.slot) = subst (λ (h : Header). HoldsHeader state.seen extent h (other_of keeps.stands.slot)) header_is in_place.held in
       let number_is = (follows plan.first.blocks before.seen plan.first.from (next_number old.base) old.base parts.first fits refl parts.first_held.list.stand).following in
-      let fronts : AreHeld (areas_in_front new) geometry (next_number new.base) parts.others (earlier_of rest) state =
-      held_stay (areas_in_front new) geometry (next_number new.base) parts.others (earlier_of rest) before state
+      let fronts : AreHeld (areas_before_last new) geometry (next_number new.base) parts.others (earlier_of rest) state =
+      held_stay (areas_before_last new) geometry (next_number new.base) parts.others (earlier_of rest) before state
       (ring_inside geometry (length rest) (next_of (areas_in geometry) old.first_area) (next_below (areas_in geometry) old.first_area old.first_inside))
-      (areas_above (areas_in_front new) geometry before.seen state.seen same) (λ place below. in_place.synced place)
-      (subst (λ (next : ℕ). AreHeld (areas_in_front new) geometry next parts.others (earlier_of rest) before) number_is parts.others_held) in
+      (areas_above (areas_before_last new) geometry before.seen state.seen same) (λ place below. in_place.synced place)
+      (subst (λ (next : ℕ). AreHeld (areas_before_last new) geometry next parts.others (earlier_of rest) before) number_is parts.others_held) in
       let last : IsHeld keeper.memory.area (behind_lists (next_number new.base) parts.others) keeps.areas.groups before =
       subst (λ (next : ℕ). IsHeld keeper.memory.area (behind_lists next parts.others) keeps.areas.groups before) number_is
       (subst (λ (front : List (List StoredGroup)). IsHeld keeper.memory.area (behind_lists (next_number old.base) front) keeps.areas.groups before) parts.is keeps.areas.held) in

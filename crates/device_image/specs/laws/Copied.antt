@@ -15,7 +15,7 @@ use Rattle.device_image.specs.inner.Copied.{IsCopiedOver}
 use Rattle.device_image.specs.inner.Free.{to_be_copied}
 use Rattle.device_image.specs.Keeper.{AreUncopied, KeeperState, PlanState, count_puts, earlier_of, is_put, phase_of}
 use Rattle.device_image.specs.Keeps.{AreCopied, IsCopyPlace, IsCopying, IsInPhase, IsMapWritten, Keeps, touched_first}
-use Rattle.device_image.specs.Stands.{HoldLists, areas_in_front, next_number}
+use Rattle.device_image.specs.Stands.{HoldLists, areas_before_last, next_number}
 use Rattle.device_image.specs.laws.Frame.{first_high, map_low}
 use Rattle.device_image.specs.laws.AfterWrite.{first_list}
 use Rattle.device_image.specs.laws.Kept.{held}
@@ -31,14 +31,14 @@ not_put : {b : Bool} → b ≡ false → b ≡ true → ⊥
 not_put is other = cc
 
 -- a block that was put last by the first area: it is one of the image, and its bytes stand in that area
-pub sound_put : (content : List ℕ) (header : Header) (front : List (List StoredGroup)) → HoldLists (areas_in_front header) content header.geometry (next_number header.base) front
+pub sound_put : (content : List ℕ) (header : Header) (front : List (List StoredGroup)) → HoldLists (areas_before_last header) content header.geometry (next_number header.base) front
     → (block from : ℕ) → last_touch block (touched_first header front) ≡ Some (Put from)
     → (block < header.geometry.blocks) × (area_at header.geometry header.first_area ≤ from) × (from + 4096 ≤ area_at header.geometry header.first_area + area_size header.geometry)
 sound_put content header [] holds block from is = absurd (none_is_some is)
 sound_put content header (groups ∷ front) holds block from is =
     let geometry = header.geometry in
     let start = area_at geometry header.first_area in
-    let list = first_list (areas_in geometry) header.in_front header.first_area geometry content (next_number header.base) groups front holds in
+    let list = first_list (areas_in geometry) header.before_last header.first_area geometry content (next_number header.base) groups front holds in
     subst (λ (touch : Option Touch). IsSoundTouch geometry.blocks start (start + area_size geometry) block touch) is
     (groups_sound geometry.blocks start (start + area_size geometry) block content start (next_number header.base) groups list.stand (omega arith) (omega (arith, list.inside)))
 

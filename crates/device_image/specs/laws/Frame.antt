@@ -26,11 +26,11 @@ use Rattle.regions.specs.Map.{HoldsMap}
 use Rattle.regions.specs.laws.Ring.{apart, area_high, area_low, behind_apart, behind_below, next_below, ring-last}
 use Rattle.device_image.specs.Keeper.{is_put}
 use Rattle.device_image.specs.Keeps.{AreHeld, IsCopyPlace, IsListed, IsPlaced, behind_lists}
-use Rattle.device_image.specs.Stands.{StandsFor, HoldLists, all_changes, area_of, areas_in_front, is_data, last_area, next_number, stored_image}
+use Rattle.device_image.specs.Stands.{StandsFor, HoldLists, all_changes, area_of, areas_before_last, is_data, last_area, next_number, stored_image}
 
 -- the last area in use is one of the device's
 pub last_inside : (header : Header) → last_area header < areas_in header.geometry
-last_inside header = behind_below (areas_in header.geometry) header.in_front header.first_area header.first_inside
+last_inside header = behind_below (areas_in header.geometry) header.before_last header.first_area header.first_inside
 
 pub last_high : (header : Header) → area_at header.geometry (last_area header) + area_size header.geometry ≤ 8192 + 2 * header.geometry.area
 last_high header = area_high header.geometry (last_area header) (last_inside header)
@@ -182,8 +182,8 @@ others_behind geometry (suc n) (suc k) area inside fits few = (
   others_behind geometry n k (next_of (areas_in geometry) area) (next_below (areas_in geometry) area inside) (omega (arith, fits)) (omega (arith, few)),
 )
 
-pub others_in_use : (header : Header) → AreOthers header.geometry (areas_in_front header) (last_area header)
-others_in_use header = others_behind header.geometry header.in_front header.in_front header.first_area header.first_inside (omega arith) header.few_areas
+pub others_in_use : (header : Header) → AreOthers header.geometry (areas_before_last header) (last_area header)
+others_in_use header = others_behind header.geometry header.before_last header.before_last header.first_area header.first_inside (omega arith) header.few_areas
 
 -- where the bytes of areas stay, but for those of the last one, lists of the others stay
 pub lists_kept : (areas : List ℕ) (last : ℕ) (old content : List ℕ) (geometry : Geometry) (next : ℕ) (lists : List (List StoredGroup)) → AreOthers geometry areas last
@@ -275,7 +275,7 @@ abbrev pub last_of : {content : List ℕ} {image : Image} {number : ℕ} → Sta
 last_of stands = area_of stands.header.geometry (last_area stands.header)
 
 abbrev pub fronts_of : {content : List ℕ} {image : Image} {number : ℕ} → StandsFor content image number → List ℕ
-fronts_of stands = areas_in_front stands.header
+fronts_of stands = areas_before_last stands.header
 
 -- the last area has another list, and all else stays but for data that are to be copied
 module _ (old content : List ℕ) (image other : Image) (number count : ℕ) (stands : StandsFor old image number) (front : List (List StoredGroup)) (groups : List StoredGroup)
@@ -303,12 +303,12 @@ module _ (old content : List ℕ) (image other : Image) (number count : ℕ) (st
         in_force = header_kept old content stands.header stands.slot size (λ place below. low_same place (omega arith) (λ within. omega (arith, below, low, within.0))) stands.in_force;
         map = map_kept old content stands.states stands.header.geometry stands.header.map_slot map_same stands.map;
         held = subst (λ (areas : List ℕ). HoldLists areas content stands.header.geometry (next_number stands.header.base) (front ++ groups ∷ []))
-            (sym (ring-last (areas_in stands.header.geometry) stands.header.in_front stands.header.first_area))
+            (sym (ring-last (areas_in stands.header.geometry) stands.header.before_last stands.header.first_area))
             (with_last (fronts_of stands) (last_area stands.header) content stands.header.geometry (next_number stands.header.base) front groups
             (lists_kept (fronts_of stands) (last_area stands.header) old content stands.header.geometry (next_number stands.header.base) front
             (others_in_use stands.header) low_same holds)
             list);
         count = count_is;
-        shows = shows ∙ copied_images (areas_in stands.header.geometry) stands.header.in_front old content stands.header (next_number stands.header.base) front (groups ∷ []) stands.states
+        shows = shows ∙ copied_images (areas_in stands.header.geometry) stands.header.before_last old content stands.header (next_number stands.header.base) front (groups ∷ []) stands.states
             (λ place above none. same place (λ within. omega (arith, above, last_high stands.header, within.1)) none) holds;
       }

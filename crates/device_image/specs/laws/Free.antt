@@ -18,7 +18,7 @@ use Rattle.regions.specs.laws.Ring.{apart, area_high, area_low, behind_below, ne
 use Rattle.device_image.specs.inner.Free.{IsFree, in_spare_area, in_spare_map, to_be_copied}
 use Rattle.device_image.specs.Keeper.{KeeperState}
 use Rattle.device_image.specs.Keeps.{IsCopyPlace, Keeps}
-use Rattle.device_image.specs.Stands.{StandsFor, HoldLists, all_changes, area_of, areas_in_front, in_use, next_number, stored_image}
+use Rattle.device_image.specs.Stands.{StandsFor, HoldLists, all_changes, area_of, areas_before_last, in_use, next_number, stored_image}
 use Rattle.device_image.specs.laws.Frame.{AreOthers, copied_images, fronts_of, header_kept, list_kept, map_high, map_low, others_behind}
 use Rattle.device_image.specs.laws.Kept.{held}
 
@@ -47,7 +47,7 @@ module _ (header : Header) (front : List (List StoredGroup)) (place : ℕ) where
 
   -- an area that no spare one is
   pub area_used : (area : ℕ) → area < areas_in header.geometry
-      → ((places : ℕ) → header.in_front < places → places < areas_in header.geometry → area ≢ behind (areas_in header.geometry) places header.first_area)
+      → ((places : ℕ) → header.before_last < places → places < areas_in header.geometry → area ≢ behind (areas_in header.geometry) places header.first_area)
       → InRange (area_at header.geometry area) (area_size header.geometry) place → IsFree header front place → ⊥
   area_used area inside others here (in_spare_area places behind_it few within) =
       apart header.geometry area (behind (areas_in header.geometry) places header.first_area) place (others places behind_it few) here within
@@ -75,7 +75,7 @@ lists_stay (area ∷ areas) old content geometry next (groups ∷ lists) same ho
 
 -- none of these areas is a spare one
 abbrev pub AreUsed : Header → List ℕ → Type 0
-AreUsed header areas = (places : ℕ) → header.in_front < places → places < areas_in header.geometry → AreOthers header.geometry areas (behind (areas_in header.geometry) places header.first_area)
+AreUsed header areas = (places : ℕ) → header.before_last < places → places < areas_in header.geometry → AreOthers header.geometry areas (behind (areas_in header.geometry) places header.first_area)
 
 abbrev pub AreInside : Geometry → List ℕ → Type 0
 AreInside geometry [] = Unit {0}
@@ -87,14 +87,14 @@ ring_inside geometry (suc n) area inside = (inside, ring_inside geometry n (next
 
 -- the areas in use, and those before the last, are none of the spare ones
 pub in_use_used : (header : Header) → AreUsed header (in_use header)
-in_use_used header places behind_it few = others_behind header.geometry (suc header.in_front) places header.first_area header.first_inside (omega (arith, behind_it)) few
+in_use_used header places behind_it few = others_behind header.geometry (suc header.before_last) places header.first_area header.first_inside (omega (arith, behind_it)) few
 
-pub in_front_used : (header : Header) → AreUsed header (areas_in_front header)
-in_front_used header places behind_it few = others_behind header.geometry header.in_front places header.first_area header.first_inside (omega (arith, behind_it)) few
+pub before_last_used : (header : Header) → AreUsed header (areas_before_last header)
+before_last_used header places behind_it few = others_behind header.geometry header.before_last places header.first_area header.first_inside (omega (arith, behind_it)) few
 
 module _ (old content : List ℕ) (header : Header) (front : List (List StoredGroup)) (same : (place : ℕ) → 8192 ≤ place → (IsFree header front place → ⊥) → slice_index content place ≡ slice_index old place) where
   -- an area in use stays
-  pub area_same : (area : ℕ) → area < areas_in header.geometry → ((places : ℕ) → header.in_front < places → places < areas_in header.geometry → area ≢ behind (areas_in header.geometry) places header.first_area)
+  pub area_same : (area : ℕ) → area < areas_in header.geometry → ((places : ℕ) → header.before_last < places → places < areas_in header.geometry → area ≢ behind (areas_in header.geometry) places header.first_area)
       → (place : ℕ) → InRange (area_at header.geometry area) (area_size header.geometry) place → slice_index content place ≡ slice_index old place
   area_same area inside others place here = same place (omega (arith, here.0, area_low header.geometry area)) (area_used header front place area inside others here)
 
@@ -125,14 +125,14 @@ module _ (old content : List ℕ) (image : Image) (number : ℕ) (stands : Stand
   lists_still =
       let header = stands.header in
       lists_stay (in_use header) old content header.geometry (next_number header.base) stands.lists
-      (areas_same old content header front same (in_use header) (ring_inside header.geometry (suc header.in_front) header.first_area header.first_inside) (in_use_used header)) stands.held
+      (areas_same old content header front same (in_use header) (ring_inside header.geometry (suc header.before_last) header.first_area header.first_inside) (in_use_used header)) stands.held
 
   pub shows_still : image ≡ apply_all (all_changes stands.lists) (stored_image content stands.header.geometry stands.states)
   shows_still =
       let header = stands.header in
       stands.shows
       ∙ ap (λ (lists : List (List StoredGroup)). apply_all (all_changes lists) (stored_image old header.geometry stands.states)) are
-      ∙ copied_images (areas_in header.geometry) header.in_front old content header (next_number header.base) front (groups ∷ []) stands.states
+      ∙ copied_images (areas_in header.geometry) header.before_last old content header (next_number header.base) front (groups ∷ []) stands.states
       (λ place above none. same place (omega (arith, above)) (data_used header front place above none)) holds
       ∙ ap (λ (lists : List (List StoredGroup)). apply_all (all_changes lists) (stored_image content header.geometry stands.states)) (sym are)
 

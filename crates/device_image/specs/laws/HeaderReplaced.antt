@@ -25,7 +25,7 @@ use Rattle.regions.specs.Map.{HoldsMap}
 use Rattle.regions.specs.laws.Ring.{area_low, ring-last}
 use Rattle.device_image.specs.inner.Free.{IsFree}
 use Rattle.device_image.specs.Keeper.{AreStatesAfter}
-use Rattle.device_image.specs.Stands.{StandsFor, HoldLists, all_changes, areas_in_front, in_use, is_data, next_number, stored_image}
+use Rattle.device_image.specs.Stands.{StandsFor, HoldLists, all_changes, areas_before_last, in_use, is_data, next_number, stored_image}
 use Rattle.device_image.specs.laws.Frame.{all_changes-append, apply_all-append, blocks-apply_all, image_kept, map_low, with_last}
 use Rattle.device_image.specs.laws.Free.{AreSame, lists_stay, lists_still, map_stays, shows_still}
 use Rattle.device_image.specs.laws.Headers.{begun, ended}
@@ -71,14 +71,14 @@ changes-empty lists = all_changes-append lists ([] ∷ []) ∙ append-nil (all_c
 module _ (old content : List ℕ) (image : Image) (number : ℕ) (stands : StandsFor old image number) (front : List (List StoredGroup)) (groups : List StoredGroup)
     (are : stands.lists ≡ front ++ groups ∷ [])
     (same : (place : ℕ) → 8192 ≤ place → (IsFree stands.header front place → ⊥) → slice_index content place ≡ slice_index old place)
-    (holds : HoldLists (areas_in_front stands.header) old stands.header.geometry (next_number stands.header.base) front)
-    (room : suc stands.header.in_front < areas_in stands.header.geometry) (some : 0 < area_size stands.header.geometry)
-    (closed : IsOpen content (area_at stands.header.geometry (behind (areas_in stands.header.geometry) (suc stands.header.in_front) stands.header.first_area)) → ⊥) where
+    (holds : HoldLists (areas_before_last stands.header) old stands.header.geometry (next_number stands.header.base) front)
+    (room : suc stands.header.before_last < areas_in stands.header.geometry) (some : 0 < area_size stands.header.geometry)
+    (closed : IsOpen content (area_at stands.header.geometry (behind (areas_in stands.header.geometry) (suc stands.header.before_last) stands.header.first_area)) → ⊥) where
   pub begun_lists : HoldLists (in_use (begun stands.header room)) content stands.header.geometry (next_number stands.header.base) (stands.lists ++ [] ∷ [])
   begun_lists =
       let header = stands.header in
-      let last = behind (areas_in header.geometry) (suc header.in_front) header.first_area in
-      subst (λ (areas : List ℕ). HoldLists areas content header.geometry (next_number header.base) (stands.lists ++ [] ∷ [])) (sym (ring-last (areas_in header.geometry) (suc header.in_front) header.first_area))
+      let last = behind (areas_in header.geometry) (suc header.before_last) header.first_area in
+      subst (λ (areas : List ℕ). HoldLists areas content header.geometry (next_number header.base) (stands.lists ++ [] ∷ [])) (sym (ring-last (areas_in header.geometry) (suc header.before_last) header.first_area))
       (with_last (in_use header) last content header.geometry (next_number header.base) stands.lists [] (lists_still old content image number stands front groups are same holds)
       (record { stand = closed; inside = some }))
 
@@ -156,7 +156,7 @@ areas_above [] geometry old content same = tt
 areas_above (area ∷ areas) geometry old content same = (λ place here. same place (omega (arith, here.0, area_low geometry area)), areas_above areas geometry old content same)
 
 -- a checkpoint ends: the first area is no longer in use, over what map and data then hold
-module _ (old content : List ℕ) (header : Header) (before after : List Kind) (rest : ℕ) (is : header.in_front ≡ suc rest) (first : List StoredGroup) (others : List (List StoredGroup)) (image : Image) (number : ℕ)
+module _ (old content : List ℕ) (header : Header) (before after : List Kind) (rest : ℕ) (is : header.before_last ≡ suc rest) (first : List StoredGroup) (others : List (List StoredGroup)) (image : Image) (number : ℕ)
     (fits : header.base < 18446744073709551616) (blocks : length before ≡ header.geometry.blocks)
     (map : HoldsMap old (map_at header.geometry (other_of header.map_slot)) header.geometry.blocks after)
     (states : AreStatesAfter (touched_by_groups (area_at header.geometry header.first_area) first) before after)

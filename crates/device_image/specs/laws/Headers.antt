@@ -6,17 +6,17 @@ use Rattle.regions.specs.Layout.{areas_in, next_of}
 use Rattle.regions.specs.laws.Ring.{next_below}
 
 -- with the next area in use, after those that were
-abbrev pub begun : (header : Header) → suc header.in_front < areas_in header.geometry → Header
-begun header room = record header { generation = header.generation + 1; in_front = suc header.in_front; few_areas = room }
+abbrev pub begun : (header : Header) → suc header.before_last < areas_in header.geometry → Header
+begun header room = record header { generation = header.generation + 1; before_last = suc header.before_last; few_areas = room }
 
-pub fewer : (header : Header) (rest : ℕ) → header.in_front ≡ suc rest → rest < areas_in header.geometry
+pub fewer : (header : Header) (rest : ℕ) → header.before_last ≡ suc rest → rest < areas_in header.geometry
 fewer header rest is = let few = header.few_areas in omega (arith, few, is)
 
 -- without the first of them, where this many others stand before the last
-abbrev pub ended : (header : Header) (rest : ℕ) → header.in_front ≡ suc rest → ℕ → Header
+abbrev pub ended : (header : Header) (rest : ℕ) → header.before_last ≡ suc rest → ℕ → Header
 ended header rest is base = record header {
   generation = header.generation + 1;
-  in_front = rest;
+  before_last = rest;
   first_area = next_of (areas_in header.geometry) header.first_area;
   map_slot = other_of header.map_slot;
   base = base;

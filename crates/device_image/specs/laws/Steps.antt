@@ -12,10 +12,10 @@ use Rattle.regions.specs.laws.Ring.{area_high, behind_apart}
 use Rattle.device_image.specs.inner.Free.{IsFree}
 use Rattle.device_image.specs.Keeper.{KeeperState, PlanState, earlier_of, phase_of}
 use Rattle.device_image.specs.Keeps.{AreHeld, HoldsAreas, IsCopyPlace, IsInPhase, Keeps}
-use Rattle.device_image.specs.Stands.{areas_in_front, last_area, next_number}
+use Rattle.device_image.specs.Stands.{areas_before_last, last_area, next_number}
 use Rattle.device_image.specs.laws.Frame.{fronts_of, last_high, last_inside, one_kept, one_listed}
 use Rattle.device_image.specs.laws.Lists.{KeepsLists}
-use Rattle.device_image.specs.laws.Free.{AreInside, AreSame, area_same, areas_same, free_content, in_front_used, ring_inside}
+use Rattle.device_image.specs.laws.Free.{AreInside, AreSame, area_same, areas_same, free_content, before_last_used, ring_inside}
 
 -- areas that are held still are where their bytes stay
 pub held_stay : (sides : List ℕ) (geometry : Geometry) (next : ℕ) (lists : List (List StoredGroup)) (areas : List AreaState) (before after : State) → AreInside geometry sides → AreSame sides geometry before.seen after.seen
@@ -32,15 +32,15 @@ held_stay (side ∷ sides) geometry next (groups ∷ lists) (area ∷ areas) bef
 )
 
 module _ (old content : List ℕ) (header : Header) (front : List (List StoredGroup)) (same : (place : ℕ) → (IsFree header front place → ⊥) → slice_index content place ≡ slice_index old place) where
-  pub fronts_inside : AreInside header.geometry (areas_in_front header)
-  fronts_inside = ring_inside header.geometry header.in_front header.first_area header.first_inside
+  pub fronts_inside : AreInside header.geometry (areas_before_last header)
+  fronts_inside = ring_inside header.geometry header.before_last header.first_area header.first_inside
 
-  pub fronts_same : AreSame (areas_in_front header) header.geometry old content
-  fronts_same = areas_same old content header front (λ place above. same place) (areas_in_front header) fronts_inside (in_front_used header)
+  pub fronts_same : AreSame (areas_before_last header) header.geometry old content
+  fronts_same = areas_same old content header front (λ place above. same place) (areas_before_last header) fronts_inside (before_last_used header)
 
   pub last_same : (place : ℕ) → InRange (area_at header.geometry (last_area header)) (area_size header.geometry) place → slice_index content place ≡ slice_index old place
   last_same = area_same old content header front (λ place above. same place) (last_area header) (last_inside header)
-      (λ places behind_it few. behind_apart (areas_in header.geometry) header.in_front places header.first_area header.first_inside behind_it few)
+      (λ places behind_it few. behind_apart (areas_in header.geometry) header.before_last places header.first_area header.first_inside behind_it few)
 
 -- the keeper goes on keeping the image, in the phase that is told
 module _ {D : Type 0} (keeper : KeeperState D) (before : State) (image : Image) (number : ℕ) (keeps : Keeps keeper before image number) (after : State)

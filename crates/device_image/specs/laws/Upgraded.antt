@@ -46,7 +46,7 @@ abbrev pub upgraded : (header : Header) (geometry : Geometry) → 2 * header.fir
 upgraded header geometry inside = record {
   generation = header.generation + 1;
   geometry = geometry;
-  in_front = 0;
+  before_last = 0;
   first_area = 2 * header.first_area;
   map_slot = header.map_slot;
   base = header.base;
@@ -93,26 +93,26 @@ module _ {D : Type 0} (keeper : KeeperState D) (before : State) (image : Image) 
   plans_empty : keeper.memory.plans ≡ []
   plans_empty = no_plans keeper.memory.plans (sym keeps.phase ∙ one)
 
-  nothing_in_front : keeps.areas.front ≡ []
-  nothing_in_front = front_empty keeper before image number keeps one
+  nothing_before_last : keeps.areas.front ≡ []
+  nothing_before_last = front_empty keeper before image number keeps one
 
   groups_empty : keeps.areas.groups ≡ []
   groups_empty = no_groups keeps.areas.groups (sym keeps.taken ∙ none)
 
   pub lists_are : keeps.stands.lists ≡ [] ∷ []
-  lists_are = keeps.areas.are ∙ (λ i. nothing_in_front i ++ groups_empty i ∷ [])
+  lists_are = keeps.areas.are ∙ (λ i. nothing_before_last i ++ groups_empty i ∷ [])
 
-  in_front : keeps.stands.header.in_front ≡ 0
-  in_front =
+  before_last : keeps.stands.header.before_last ≡ 0
+  before_last =
       let header = keeps.stands.header in
-      fronts_many (areas_in header.geometry) header.in_front header.first_area header.geometry (next_number header.base) keeps.areas.front keeper.memory.plans before keeps.areas.earlier_held
+      fronts_many (areas_in header.geometry) header.before_last header.first_area header.geometry (next_number header.base) keeps.areas.front keeper.memory.plans before keeps.areas.earlier_held
       ∙ ap length plans_empty
 
   -- nothing is unsynced where nothing is to be copied
   pub rest_synced : (place : ℕ) → before.unsynced place → ⊥
   rest_synced place unsynced =
       let copy = keeps.unsynced place unsynced in
-      never_true (subst (λ (front : List (List StoredGroup)). IsTrue (is_put (last_touch copy.block (touched_first keeps.stands.header front)))) nothing_in_front copy.put)
+      never_true (subst (λ (front : List (List StoredGroup)). IsTrue (is_put (last_touch copy.block (touched_first keeps.stands.header front)))) nothing_before_last copy.put)
 
   pub inside : 2 * keeps.stands.header.first_area < areas_in geometry
   inside = halved_inside keeps.stands.header.geometry geometry keeps.stands.header.first_area halved keeps.stands.header.first_inside
@@ -127,7 +127,7 @@ module _ {D : Type 0} (keeper : KeeperState D) (before : State) (image : Image) 
   same_place =
       let header = keeps.stands.header in
       area_halved header.geometry geometry header.first_area halved header.first_inside
-      ∙ sym (keeps.areas.placed.from ∙ ap (λ (n : ℕ). area_at header.geometry (behind (areas_in header.geometry) n header.first_area)) in_front)
+      ∙ sym (keeps.areas.placed.from ∙ ap (λ (n : ℕ). area_at header.geometry (behind (areas_in header.geometry) n header.first_area)) before_last)
 
   closed : IsOpen before.seen keeper.memory.area.from → ⊥
   closed = subst (λ (groups : List StoredGroup). Stand keeper.memory.area.blocks before.seen keeper.memory.area.from (behind_lists (next_number keeps.stands.header.base) keeps.areas.front) groups) groups_empty keeps.areas.held.list.stand
@@ -237,7 +237,7 @@ module _ {D : Type 0} (keeper : KeeperState D) (before : State) (image : Image) 
           held = record {
             list = record { stand = list.stand; inside = list.inside };
             gate = refl;
-            next = keeps.areas.held.next ∙ (λ i. next_behind (behind_lists (next_number header.base) (nothing_in_front i)) (groups_empty i));
+            next = keeps.areas.held.next ∙ (λ i. next_behind (behind_lists (next_number header.base) (nothing_before_last i)) (groups_empty i));
             touched = refl;
             synced = λ place within. in_place.synced place;
           };

@@ -74,7 +74,7 @@ module _ (a b : List ℕ) (p q : ℕ) (same : (k : ℕ) → k < 39 → slice_ind
   moved_bad (outside_limits layout begins outside) = outside_limits layout (sym first_number ∙ begins) (λ sizes. outside
       (subst (λ (blocks : ℕ). AreSizesOf layout blocks (number_at (p + 24) 4 a)) (sym (moved_number 16 8 (omega arith)))
       (subst (λ (area : ℕ). AreSizesOf layout (number_at (q + 16) 8 b) area) (sym (moved_number 24 4 (omega arith))) sizes)))
-  moved_bad (no_mode layout begins none) = no_mode layout (sym first_number ∙ begins) (λ in_front few is. none in_front few (same 28 (omega arith) ∙ is))
+  moved_bad (no_mode layout begins none) = no_mode layout (sym first_number ∙ begins) (λ before_last few is. none before_last few (same 28 (omega arith) ∙ is))
   moved_bad (no_first_area layout begins above) = no_first_area layout (sym first_number ∙ begins) (subst (λ (byte : ℕ). areas_of layout ≤ byte) (same 29 (omega arith)) above)
   moved_bad (no_map_slot above) = no_map_slot (subst (λ (byte : ℕ). 1 < byte) (same 30 (omega arith)) above)
 

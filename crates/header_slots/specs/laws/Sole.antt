@@ -48,9 +48,9 @@ same_size : (layout : Layout) (area other : ℕ) → area % 8192 ≡ 0 → other
 same_size layouts.One area other whole also same = same
 same_size layouts.Two area other whole also same = omega (arith, whole, also, same)
 
-same_mode : (layout : Layout) (in_front other : ℕ) → mode_of layout in_front ≡ mode_of layout other → in_front ≡ other
-same_mode layouts.One in_front other same = same
-same_mode layouts.Two in_front other same = omega (arith, same)
+same_mode : (layout : Layout) (before_last other : ℕ) → mode_of layout before_last ≡ mode_of layout other → before_last ≡ other
+same_mode layouts.One before_last other same = same
+same_mode layouts.Two before_last other same = omega (arith, same)
 
 whole_prop : (rest : ℕ) (this other : rest ≡ 0) → this ≡ other
 whole_prop rest this other = ℕ_set rest 0 this other
@@ -76,23 +76,23 @@ same_geometry geometry other blocks area layout =
     other.some_blocks other.not_too_many other.area_not_too_small other.areas_not_too_small other.area_not_too_large other.area_whole
 
 -- headers with the same fields are one
-pub same_fields : (header other : Header) → header.generation ≡ other.generation → header.geometry ≡ other.geometry → header.in_front ≡ other.in_front
+pub same_fields : (header other : Header) → header.generation ≡ other.generation → header.geometry ≡ other.geometry → header.before_last ≡ other.before_last
     → header.first_area ≡ other.first_area → header.map_slot ≡ other.map_slot → header.base ≡ other.base → header ≡ other
-same_fields header other generation geometry in_front first_area map_slot base =
+same_fields header other generation geometry before_last first_area map_slot base =
     let Same : Geometry → ℕ → ℕ → Type 0 = λ size front first. (few : front < areas_of size.layout) (inside : first < areas_of size.layout)
-    → header ≡ record { generation = other.generation; geometry = size; in_front = front; first_area = first; map_slot = other.map_slot; base = other.base; few_areas = few; first_inside = inside } in
-    let here : Same header.geometry header.in_front header.first_area = λ few inside. λ i. record {
+    → header ≡ record { generation = other.generation; geometry = size; before_last = front; first_area = first; map_slot = other.map_slot; base = other.base; few_areas = few; first_inside = inside } in
+    let here : Same header.geometry header.before_last header.first_area = λ few inside. λ i. record {
       generation = generation i;
       geometry = header.geometry;
-      in_front = header.in_front;
+      before_last = header.before_last;
       first_area = header.first_area;
       map_slot = map_slot i;
       base = base i;
       few_areas = le_prop header.few_areas few i;
       first_inside = le_prop header.first_inside inside i;
     } in
-    subst (λ (size : Geometry). Same size other.in_front other.first_area) geometry
-    (subst (λ (front : ℕ). Same header.geometry front other.first_area) in_front (subst (λ (first : ℕ). Same header.geometry header.in_front first) first_area here))
+    subst (λ (size : Geometry). Same size other.before_last other.first_area) geometry
+    (subst (λ (front : ℕ). Same header.geometry front other.first_area) before_last (subst (λ (first : ℕ). Same header.geometry header.before_last first) first_area here))
     other.few_areas other.first_inside
 
 spelled_layout : (content : List ℕ) (place : ℕ) (header : Header) (layout : Layout) → SpellsAt content place header → number_at place 8 content ≡ magic_of layout → header.geometry.layout ≡ layout
@@ -109,10 +109,10 @@ spelled_geometry content place header other first second =
 pub one_header : (content : List ℕ) (place : ℕ) (header other : Header) → SpellsAt content place header → SpellsAt content place other → header ≡ other
 one_header content place header other first second =
     let geometry = spelled_geometry content place header other first second in
-    let mode : mode_of other.geometry.layout header.in_front ≡ mode_of other.geometry.layout other.in_front =
-    ap (λ (size : Geometry). mode_of size.layout header.in_front) (sym geometry) ∙ sym first.mode ∙ second.mode in
+    let mode : mode_of other.geometry.layout header.before_last ≡ mode_of other.geometry.layout other.before_last =
+    ap (λ (size : Geometry). mode_of size.layout header.before_last) (sym geometry) ∙ sym first.mode ∙ second.mode in
     same_fields header other (sym first.generation ∙ second.generation) geometry
-    (same_mode other.geometry.layout header.in_front other.in_front mode) (sym first.first_area ∙ second.first_area)
+    (same_mode other.geometry.layout header.before_last other.before_last mode) (sym first.first_area ∙ second.first_area)
     (same_side header.map_slot other.map_slot (sym first.map_slot ∙ second.map_slot)) (sym first.base ∙ second.base)
 
 pub held_or_none : (content : List ℕ) (size : ℕ) (header : Header) (slot : Side) → HoldsHeader content size header slot → HoldsNone content size → ⊥
@@ -138,8 +138,8 @@ spelled_or_bad content place header spells (outside_limits layout begins outside
     (subst (λ (bytes : ℕ). AreSizesOf layout header.geometry.blocks bytes) (sym area) (sizes_spelled layout header.geometry is)))
 spelled_or_bad content place header spells (no_mode layout begins none) =
     let is = spelled_layout content place header layout spells begins in
-    none header.in_front (subst (λ (how : Layout). header.in_front < areas_of how) is header.few_areas)
-    (spells.mode ∙ ap (λ (how : Layout). mode_of how header.in_front) is)
+    none header.before_last (subst (λ (how : Layout). header.before_last < areas_of how) is header.few_areas)
+    (spells.mode ∙ ap (λ (how : Layout). mode_of how header.before_last) is)
 spelled_or_bad content place header spells (no_first_area layout begins above) =
     let is = spelled_layout content place header layout spells begins in
     let inside = subst (λ (how : Layout). header.first_area < areas_of how) is header.first_inside in

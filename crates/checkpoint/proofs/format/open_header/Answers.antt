@@ -2,7 +2,7 @@ use Rattle.std.proofs.Common.{inl, subst, ◌∙◌}
 use Rattle.std.proofs.lemmas.Result.{on_ok_weaker, IfOk-from_err}
 use Rattle.disk_model.specs.Disk.{IsSound}
 use Rattle.disk_model.specs.laws.Moments.{goes_on, stays_on, weakens}
-use Rattle.checkpoint.proofs.Formatted.{closed_left, opened_formatted, opened_torn}
+use Rattle.checkpoint.proofs.DeviceWhileFormatted.{closed_left, opened_formatted, opened_torn}
 use Rattle.checkpoint.proofs.format.open_header.Goals as goal
 
 pub returns-in_err-sync-clause-any_moment : goal.returns-in_err-sync-clause-any_moment

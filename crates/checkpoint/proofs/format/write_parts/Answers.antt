@@ -9,7 +9,7 @@ use Rattle.image_model.specs.declared.geometry.Geometry.{Geometry}
 use Rattle.journal_format.specs.Area.{AreaState}
 use Rattle.regions.specs.Layout.{area_at, map_at}
 use Rattle.checkpoint.proofs.ExcludedRefusals.{failed_counted}
-use Rattle.checkpoint.proofs.Formatted.{body_moments, gate_moments, map_moments, parts_written}
+use Rattle.checkpoint.proofs.DeviceWhileFormatted.{body_moments, gate_moments, map_moments, parts_written}
 use Rattle.checkpoint.proofs.format.write_parts.Goals as goal
 
 pub returns-clause-any_moment : goal.returns-clause-any_moment
@@ -26,7 +26,7 @@ returns-clause-fresh g c honest closed =
     let gate = c.in_ok-close_first.ensures in
     let map = c.in_ok-write_at.ensures in
     let one_honest = gate.honest.1 honest in
-    let same = c.of-regions.ensures in
+    let same = c.from_geometry-regions.ensures in
     let from : c.new-area.result.from ≡ area_at geometry 0 = ap (λ (area : AreaState). area.from) c.new-area.ensures ∙ c.area_from.ensures.place ∙ ap (λ (size : Geometry). area_at size 0) same in
     let map_is : c.map_from.result ≡ map_at geometry Zero = c.map_from.ensures.place ∙ ap (λ (size : Geometry). map_at size Zero) same in
     let before = g.D.Disk.state c.args.disk.now in

@@ -4,7 +4,7 @@ use Rattle.checkpoint.specs.inner.Recovery.{IsBegun}
 use Rattle.checkpoint.specs.Keeper.{AreSized}
 use Rattle.checkpoint.specs.declared.fault.KeeperFault.TheVariants.{DeviceFault}
 use Rattle.checkpoint.proofs.ExcludedRefusals.{err_same, ok_apart}
-use Rattle.checkpoint.proofs.Areas.{placed_sized}
+use Rattle.checkpoint.proofs.AreasReadInTurn.{placed_sized}
 use Rattle.checkpoint.proofs.HeaderChangeRemembers.{counted_read, sized_read, uncopied_behind}
 use Rattle.device_image.specs.Keeper.{PlanState, last_turned, phase_of, turned_of}
 use Rattle.device_image.specs.Stands.{last_area}
@@ -42,7 +42,7 @@ invariant_of-result g c =
     let extent = g.D.Disk.extent c.read_device.new.disk in
     let same : g.D.Disk.extent c.args.disk ≡ extent = sym call.extent in
     let sized = subst (λ (e : ℕ). AreSized read.plans.items read.header.geometry e) same call.sized in
-    let waits = sized_read taken.result read.plans.items taken.new.waiting.items read.header.geometry extent read.header.in_front taken.ensures.plans taken.ensures.none sized call.many in
+    let waits = sized_read taken.result read.plans.items taken.new.waiting.items read.header.geometry extent read.header.before_last taken.ensures.plans taken.ensures.none sized call.many in
     let size : extent ≡ device_bytes_of read.header.geometry.blocks read.header.geometry.area = call.extent ∙ call.whole in
     let fits : read.header.base < 18446744073709551616 = search rules in (
       size,

@@ -5,8 +5,8 @@ use Rattle.journal_format.specs.Area.{AreaState}
 use Rattle.journal_format.specs.GroupList.{IsDamaged}
 use Rattle.regions.specs.Layout.{area_at}
 use Rattle.device_image.specs.Stands.{area_of}
-use Rattle.checkpoint.proofs.Areas.{moved_damage, scan_refused}
-use Rattle.checkpoint.proofs.Readings.{at_refusal, seen_same}
+use Rattle.checkpoint.proofs.AreasReadInTurn.{moved_damage, scan_refused}
+use Rattle.checkpoint.proofs.SyncedReads.{at_refusal, seen_same}
 use Rattle.checkpoint.proofs.opening.read_area.Goals as goal
 
 pub returns-in_err-scan-clause-read : goal.returns-in_err-scan-clause-read
@@ -16,7 +16,7 @@ returns-in_err-scan-clause-read g c honest synced =
     let before = g.D.Disk.state c.args.disk.now in
     let after = g.D.Disk.state c.scan.new.disk in
     let new = c.new-area.ensures in
-    let from : area.from ≡ area_at c.args.geometry.now c.args.index = ap (λ (a : AreaState). a.from) new ∙ c.area_from-from.ensures.place ∙ ap (λ (size : Geometry). area_at size c.args.index) c.of.ensures in
+    let from : area.from ≡ area_at c.args.geometry.now c.args.index = ap (λ (a : AreaState). a.from) new ∙ c.area_from-from.ensures.place ∙ ap (λ (size : Geometry). area_at size c.args.index) c.from_geometry.ensures in
     let same = seen_same (g.met.D.Disk.sound c.args.disk.now honest) synced (call.only_read honest) in
     let first : area.next ≡ c.args.next = ap (λ (a : AreaState). a.next) new in
     at_refusal _ _ _ _ c.from_residual.ensures.1

@@ -11,8 +11,8 @@ use Rattle.device_image.specs.laws.CheckpointBounds.{uncopied_more}
 use Rattle.checkpoint.specs.Keeper.{AreSized, faults_by}
 use Rattle.checkpoint.specs.declared.fault.KeeperFault.TheVariants.{NoMemory}
 use Rattle.checkpoint.proofs.ExcludedRefusals.{err_given, both_ways}
-use Rattle.checkpoint.proofs.Areas.{AreHeldSoFar, all_held, area_damaged, last-push, more_held, next_after, placed_sized, sized_more}
-use Rattle.checkpoint.proofs.Readings.{at_refusal, damage_weaker, seen_same, still_synced}
+use Rattle.checkpoint.proofs.AreasReadInTurn.{AreHeldSoFar, all_held, area_damaged, last-push, more_held, next_after, placed_sized, sized_more}
+use Rattle.checkpoint.proofs.SyncedReads.{at_refusal, damage_weaker, seen_same, still_synced}
 use Rattle.checkpoint.proofs.opening.read_areas.Goals as goal
 
 pub returns-in_err-plan : goal.returns-in_err-plan
@@ -40,7 +40,7 @@ returns-in_err-plan g c = record {
       let read = call.only_read mid_honest in
       let same = seen_same (g.met.D.Disk.sound c.loop-place.disk mid_honest) mid_synced read in
       let index : c.area_after-index.result ≡ behind (areas_in header.geometry) c.loop-place.place header.first_area =
-      c.area_after-index.ensures.area ∙ ap (λ (size : Geometry). behind (areas_in size) c.loop-place.place header.first_area) c.of-regions.ensures in
+      c.area_after-index.ensures.area ∙ ap (λ (size : Geometry). behind (areas_in size) c.loop-place.place header.first_area) c.from_geometry-regions.ensures in
       at_refusal _ _ _ _ c.from_residual.ensures.1
       (damage_weaker c.in_err-plan.field-0.0
       (λ damaged. area_damaged header c.loop-place.place c.loop-place.plans.items before after c.loop-place.next (so_far.held honest synced) same (still_synced mid_synced read)
@@ -80,8 +80,8 @@ loop-place-preserved g c =
     let now_is : now ≡ plan.first.next = c.next-next.ensures in
     let pushed : c.push.new.self.items ≡ plans ++ plan ∷ [] = c.push.ensures.items ∙ ap (λ b. if b then plans ++ plan ∷ [] else plans) (sym c.in_ok-map_err.ensures.variant) in
     let index : c.area_after-index.result ≡ behind (areas_in header.geometry) c.loop-place.place header.first_area =
-    c.area_after-index.ensures.area ∙ ap (λ (size : Geometry). behind (areas_in size) c.loop-place.place header.first_area) c.of-regions.ensures in
-    let inside = subst (λ (size : Geometry). c.area_after-index.result < areas_in size) c.of-regions.ensures c.area_after-index.ensures.inside in
+    c.area_after-index.ensures.area ∙ ap (λ (size : Geometry). behind (areas_in size) c.loop-place.place header.first_area) c.from_geometry-regions.ensures in
+    let inside = subst (λ (size : Geometry). c.area_after-index.result < areas_in size) c.from_geometry-regions.ensures c.area_after-index.ensures.inside in
     let next_place : suc c.loop-place.place ≡ c.loop-place.place + 1 = omega arith in
     record {
       extent = call.extent ∙ so_far.extent;
@@ -129,13 +129,13 @@ returns-in_err-area g c = record {
       let mid_synced = still_synced synced (so_far.only_read honest) in
       let read = call.only_read mid_honest in
       let same = seen_same (g.met.D.Disk.sound c.loop-place.disk mid_honest) mid_synced read in
-      let place : c.loop-place.place ≡ header.in_front = omega (arith, c.loop-place-test.false) in
+      let place : c.loop-place.place ≡ header.before_last = omega (arith, c.loop-place-test.false) in
       let held = subst (λ (n : ℕ). AreHeldSoFar before header n c.loop-place.plans.items c.loop-place.next) place (so_far.held honest synced) in
       let index : c.area_after-last.result ≡ last_area header =
-      c.area_after-last.ensures.area ∙ ap (λ (size : Geometry). behind (areas_in size) header.in_front header.first_area) c.of-regions.ensures in
+      c.area_after-last.ensures.area ∙ ap (λ (size : Geometry). behind (areas_in size) header.before_last header.first_area) c.from_geometry-regions.ensures in
       at_refusal _ _ _ _ c.from_residual-in_err-area.ensures.1
       (damage_weaker c.in_err-area.field-0.0
-      (λ damaged. area_damaged header header.in_front c.loop-place.plans.items before after c.loop-place.next held same (still_synced mid_synced read) (omega arith) after.seen refl
+      (λ damaged. area_damaged header header.before_last c.loop-place.plans.items before after c.loop-place.next held same (still_synced mid_synced read) (omega arith) after.seen refl
       (subst (λ (i : ℕ). IsDamaged (area_of header.geometry i) c.loop-place.next after.seen) index damaged))
       (call.read mid_honest mid_synced));
 }
@@ -156,10 +156,10 @@ returns-clause-read g c honest synced =
     let mid_synced = still_synced synced (so_far.only_read honest) in
     let read = call.only_read mid_honest in
     let same = seen_same (g.met.D.Disk.sound c.loop-place.disk mid_honest) mid_synced read in
-    let place : c.loop-place.place ≡ header.in_front = omega (arith, c.loop-place-test.false) in
+    let place : c.loop-place.place ≡ header.before_last = omega (arith, c.loop-place-test.false) in
     let held = subst (λ (n : ℕ). AreHeldSoFar before header n c.loop-place.plans.items c.loop-place.next) place (so_far.held honest synced) in
     let index : c.area_after-last.result ≡ last_area header =
-    c.area_after-last.ensures.area ∙ ap (λ (size : Geometry). behind (areas_in size) header.in_front header.first_area) c.of-regions.ensures in
+    c.area_after-last.ensures.area ∙ ap (λ (size : Geometry). behind (areas_in size) header.before_last header.first_area) c.from_geometry-regions.ensures in
     all_held header c.loop-place.plans.items before after c.loop-place.next held same (still_synced mid_synced read) c.in_ok-area.area
     (subst (λ (i : ℕ). IsPlaced c.in_ok-area.area header.geometry i) index call.placed) (call.read mid_honest mid_synced)
 

@@ -4,7 +4,7 @@ use Rattle.journal_format.specs.Reading.{IsOnlyRead}
 use Rattle.device_image.specs.Keeper.{AreUncopied, last_turned, turned_of}
 use Rattle.device_image.specs.Stands.{next_number}
 use Rattle.checkpoint.specs.Keeper.{AreSized}
-use Rattle.checkpoint.proofs.Areas.{AreHeldSoFar}
+use Rattle.checkpoint.proofs.AreasReadInTurn.{AreHeldSoFar}
 use Rattle.checkpoint.proofs.opening.read_areas.Given as goal
 
 abbrev pub invariant-loop-place : goal.invariant-loop-place

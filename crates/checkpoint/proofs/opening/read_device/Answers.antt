@@ -5,7 +5,7 @@ use Rattle.disk_model.specs.laws.Contents.{leaves_seen}
 use Rattle.checkpoint.specs.Keeper.{AreSized, faults_by}
 use Rattle.checkpoint.specs.declared.fault.KeeperFault.TheVariants.{DeviceFault}
 use Rattle.checkpoint.proofs.ExcludedRefusals.{err_given, is_err}
-use Rattle.checkpoint.proofs.Readings.{seen_same}
+use Rattle.checkpoint.proofs.SyncedReads.{seen_same}
 use Rattle.checkpoint.proofs.opening.read_device.Goals as goal
 
 pub returns-in_err-sync-clause-placed : goal.returns-in_err-sync-clause-placed

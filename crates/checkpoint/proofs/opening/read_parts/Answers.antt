@@ -8,7 +8,7 @@ use Rattle.regions.specs.Layout.{map_at}
 use Rattle.regions.specs.Map.{HoldsMap, IsMapReading}
 use Rattle.regions.specs.declared.fault.RegionFault.{RegionFault}
 use Rattle.checkpoint.specs.Keeper.{AreSized}
-use Rattle.checkpoint.proofs.Readings.{at_refusal, groups_refused, header_read, header_refused, header_stays, map_refused, map_stays, seen_same, still_synced}
+use Rattle.checkpoint.proofs.SyncedReads.{at_refusal, groups_refused, header_read, header_refused, header_stays, map_refused, map_stays, seen_same, still_synced}
 use Rattle.checkpoint.proofs.opening.read_parts.Goals as goal
 
 -- That it is the map slot which the header names is searched for.
@@ -44,7 +44,7 @@ returns-in_err-map-clause-read g c honest synced =
     let held = subst (λ (content : List ℕ). HoldsHeader content (length content) c.in_ok-header.header c.in_ok-header.slot) same header in
     let seen = (g.D.Disk.state c.read_slot.new.disk).seen in
     let fault = c.in_err-map.field-0.0 in
-    let reading = refused_there seen _ (map_at c.in_ok-header.header.geometry c.in_ok-header.header.map_slot) _ c.in_ok-header.header.geometry.blocks fault (second.reading one_honest) (search (rules, c.of.ensures)) (search (rules, c.of.ensures)) in
+    let reading = refused_there seen _ (map_at c.in_ok-header.header.geometry c.in_ok-header.header.map_slot) _ c.in_ok-header.header.geometry.blocks fault (second.reading one_honest) (search (rules, c.from_geometry.ensures)) (search (rules, c.from_geometry.ensures)) in
     at_refusal _ _ _ _ c.from_residual-in_err-map.ensures.1 (map_refused _ c.in_ok-header.header c.in_ok-header.slot c.in_err-map.field-0.0 held reading)
 
 pub returns-in_err-plans-clause-only_read : goal.returns-in_err-plans-clause-only_read
@@ -73,7 +73,7 @@ returns-in_err-plans-clause-read g c honest synced =
     let held = header_stays one two three sound also one_synced map_read (third.only_read two_honest) header c.in_ok-header.slot c.in_ok-map.map
     (header_read _ _ header c.in_ok-header.slot (sym first.extent ∙ sym sound.size) (first.reading honest)) in
     let map = map_stays one two three sound also one_synced map_read (third.only_read two_honest) header c.in_ok-header.slot c.in_ok-map.map
-    (map_there (second.reading one_honest) (search (rules, c.of.ensures)) (search (rules, c.of.ensures))) in
+    (map_there (second.reading one_honest) (search (rules, c.from_geometry.ensures)) (search (rules, c.from_geometry.ensures))) in
     at_refusal _ _ _ _ c.from_residual-in_err-plans.ensures.1
     (groups_refused three.seen header c.in_ok-header.slot c.in_ok-map.map c.in_err-plans.field-0.0 held map (third.read two_honest (still_synced one_synced map_read)))
 
@@ -103,7 +103,7 @@ returns-clause-read g c honest synced =
     let held = header_stays one two three sound also one_synced map_read (third.only_read two_honest) header c.in_ok-header.slot c.in_ok-map.map
     (header_read _ _ header c.in_ok-header.slot (sym first.extent ∙ sym sound.size) (first.reading honest)) in
     let map = map_stays one two three sound also one_synced map_read (third.only_read two_honest) header c.in_ok-header.slot c.in_ok-map.map
-    (map_there (second.reading one_honest) (search (rules, c.of.ensures)) (search (rules, c.of.ensures))) in
+    (map_there (second.reading one_honest) (search (rules, c.from_geometry.ensures)) (search (rules, c.from_geometry.ensures))) in
     let areas = third.read two_honest (still_synced one_synced map_read) in
     record {
       lists = areas.0;

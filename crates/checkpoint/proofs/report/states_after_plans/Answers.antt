@@ -3,7 +3,7 @@ use Rattle.std.proofs.lemmas.Result.{IfOk-from_err}
 use Rattle.std.proofs.lemmas.List.{take_more}
 use Rattle.device_image.specs.Keeper.{PlanState}
 use Rattle.checkpoint.specs.inner.Report.{AreOf, AreStatesTurned}
-use Rattle.checkpoint.proofs.Reported.{of_at, turned_count, turned_more}
+use Rattle.checkpoint.proofs.ReportMatchesDevice.{of_at, turned_count, turned_more}
 use Rattle.checkpoint.proofs.report.states_after_plans.Goals as goal
 
 pub map_after-requires : goal.map_after-requires

@@ -3,7 +3,7 @@ use Rattle.std.proofs.lemmas.Result.{IfOk-weaker}
 use Rattle.clap.specs.Words.{App, Row, Text, app_of, found_of, is_simple, rows_of, subcommand_of}
 use Rattle.command_line.specs.Commands.{nbdj_app}
 use Rattle.command_line.specs.Line.{IsInvocation}
-use Rattle.command_line.proofs.Given.{found_whole}
+use Rattle.command_line.proofs.ValuesOfGetters.{found_whole}
 use Rattle.command_line.proofs.parse.line.Goals as goal
 
 pub returns-in-Some : goal.returns-in-Some

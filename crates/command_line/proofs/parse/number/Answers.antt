@@ -1,6 +1,6 @@
 use Rattle.clap.specs.Words.{found_of, one_text, rows_of}
 use Rattle.clap.proofs.WalkLemmas.{one_text-rows}
-use Rattle.command_line.proofs.Given.{number_given}
+use Rattle.command_line.proofs.ValuesOfGetters.{number_given}
 use Rattle.command_line.proofs.parse.number.Goals as goal
 
 pub returns-in-Some : goal.returns-in-Some

@@ -1,4 +1,4 @@
-use Rattle.export.proofs.Begun.{just_opened, no_commands}
+use Rattle.export.proofs.CrashAfterOpening.{just_opened, no_commands}
 use Rattle.export.proofs.laws.opened_device_law.Goals as goal
 
 pub returns-clause-left : goal.returns-clause-left

@@ -1,5 +1,5 @@
 use Rattle.std.proofs.Common.{◌≡◌, ◌≢◌, ◌∙◌, ap, subst, sym, Result, rules}
-use Rattle.export.proofs.Unserved.{error_judged, io_judged, served_judged}
+use Rattle.export.proofs.RefusedUndone.{error_judged, io_judged, served_judged}
 use Rattle.export.specs.Submits.{IsJudged}
 use Rattle.export_model.specs.Verdict.{verdict}
 use Rattle.export_model.specs.declared.action.Action.{Action}

@@ -1,8 +1,8 @@
 use Rattle.export_model.proofs.EditsBecomeCommands.{edits_fit}
 use Rattle.export_model.proofs.AnswersFitOrder.{reads_fit}
-use Rattle.export_model.proofs.Reached.{sound_reached, grows_run, reached_run}
-use Rattle.export_model.proofs.Truthful.{truth_reached}
-use Rattle.export_model.proofs.Waiting.{waiting_reached}
+use Rattle.export_model.proofs.SchedulesKeepWorld.{sound_reached, grows_run, reached_run}
+use Rattle.export_model.proofs.LogTellsDevice.{truth_reached}
+use Rattle.export_model.proofs.WaitsForOrder.{waiting_reached}
 use Rattle.export_model.specs.laws.Good.{covers_durable}
 use Rattle.export_model.specs.laws.Within.{within_reached}
 use Rattle.export_model.proofs.law.schedule_law.Goals as goal

@@ -8,11 +8,11 @@ use Rattle.export_steps.specs.Life.{Trusts}
 use Rattle.export_steps.specs.Parts.{AreConnectionsOf}
 use Rattle.export_steps.specs.inner.Storing.{hand_refused, order_refused}
 use Rattle.export_steps.proofs.CopiesAreSteps.{copied_fewer, leads_copied, told_never, told_same}
-use Rattle.export_steps.proofs.Performed.{performed_appended}
+use Rattle.export_steps.proofs.StepsOfEachKind.{performed_appended}
 use Rattle.export_steps.proofs.Runs.{stepped, trusted_honest, trusts_as}
 use Rattle.export_steps.proofs.StepsKeepCommands.{shows_still, steady_copy}
 use Rattle.export_steps.proofs.StoringSteps.{not_true_is}
-use Rattle.export_steps.proofs.Times.{copying_is}
+use Rattle.export_steps.proofs.CheckpointTimes.{copying_is}
 use Rattle.export_steps.proofs.CheckpointSteps.{as_told, copied_leaves, copy_refused, count_unlike}
 use Rattle.export_model.specs.Step.{after_step, copy_block}
 use Rattle.export_model.specs.declared.step.Step.TheVariants.{Copy}

@@ -6,7 +6,7 @@ use Rattle.export_steps.specs.Bench.{ConnectionsState}
 use Rattle.export_steps.specs.Parts.{AreConnectionsOf, IsOrderOf}
 use Rattle.export_steps.specs.inner.Serving.{AreTermsOf}
 use Rattle.export_steps.proofs.Talks.{talked_answer, talked_send}
-use Rattle.export_steps.proofs.Performed.{disk_cleans, disk_publishes, disk_seals, of_step, performed_any, performed_appended, performed_kept, performed_talked}
+use Rattle.export_steps.proofs.StepsOfEachKind.{disk_cleans, disk_publishes, disk_seals, of_step, performed_any, performed_appended, performed_kept, performed_talked}
 use Rattle.export_steps.proofs.StepsKeepCommands.{shows_after, shows_still, steady_answer, steady_append, steady_clean, steady_copy, steady_finish, steady_map, steady_publish, steady_rotate, steady_seal, steady_send}
 use Rattle.device_image.specs.Keeper.{KeeperState}
 use Rattle.export_steps.proofs.StoringSteps.{kept_clean_by, kept_publish_by, kept_seal_by}

@@ -6,7 +6,7 @@ use Rattle.disk_model.specs.laws.Moments.{weakens, goes_on}
 use Rattle.image_model.specs.declared.side.Side.{Side}
 use Rattle.header_slots.specs.Slots.{slot_at}
 use Rattle.header_slots.specs.Change.{IsBodyStored, IsGateClosed, LeavesClosing}
-use Rattle.header_slots.proofs.Changed.{closing_either, writing_either, opening_either, opened_in_place, slot_within}
+use Rattle.header_slots.proofs.HeaderChangeByCalls.{closing_either, writing_either, opening_either, opened_in_place, slot_within}
 use Rattle.header_slots.proofs.change.change_header.Goals as goal
 
 -- nothing in the slots is unsynced, so a gate isn't

@@ -3,7 +3,7 @@ use Rattle.std.specs.Prelude.{OnOk}
 use Rattle.std.proofs.lemmas.Result.{on_ok_weaker}
 use Rattle.disk_model.specs.Disk.{IsSound, IsStored, LeavesOnly, MayLeaveTorn}
 use Rattle.disk_model.specs.laws.Moments.{weakens, goes_on}
-use Rattle.header_slots.proofs.Closing.{closing_left, gate_closed}
+use Rattle.header_slots.proofs.GateClosedAfterRead.{closing_left, gate_closed}
 use Rattle.header_slots.proofs.change.close_other.Goals as goal
 
 pub returns-clause-closed : goal.returns-clause-closed

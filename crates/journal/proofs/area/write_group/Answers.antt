@@ -4,7 +4,7 @@ use Rattle.std.specs.Prelude.{OnOk}
 use Rattle.disk_model.specs.Disk.{IsSound, IsStored, LeavesOnly, MayLeaveTorn}
 use Rattle.disk_model.specs.laws.Moments.{weakens, goes_on}
 use Rattle.std.proofs.lemmas.Result.{on_ok_weaker}
-use Rattle.journal.proofs.Torn.{torn_body, torn_gate, opened}
+use Rattle.journal.proofs.CrashWhileAppending.{torn_body, torn_gate, opened}
 use Rattle.journal.proofs.area.write_group.Goals as goal
 
 pub returns-in_err-write_synced-clause-any_moment : goal.returns-in_err-write_synced-clause-any_moment

@@ -1,5 +1,5 @@
 use Rattle.std.proofs.Common.{◌∙◌}
-use Rattle.latest_writes.proofs.Laid.{pass_range}
+use Rattle.latest_writes.proofs.NewerOverOlder.{pass_range}
 use Rattle.latest_writes.proofs.overlay.first_after.Goals as goal
 
 pub loop-range-preserved : goal.loop-range-preserved

@@ -1,4 +1,4 @@
-use Rattle.latest_writes.proofs.Joined.{joined_apart, joined_exact, joined_longest, last_is_range, pushed_apart, pushed_exact, pushed_longest}
+use Rattle.latest_writes.proofs.RangesGrow.{joined_apart, joined_exact, joined_longest, last_is_range, pushed_apart, pushed_exact, pushed_longest}
 use Rattle.std.proofs.Common.{◌++◌, ◌∷◌, [], List, ◌≡◌, ap, refl, sym, ◌∙◌}
 use Rattle.latest_writes.specs.declared.range.LastRange.{LastRange}
 use Rattle.latest_writes.specs.Ranges.{touch_at}

@@ -3,7 +3,7 @@ use Rattle.std.specs.Option.{option_map_or}
 use Rattle.latest_writes.specs.declared.range.LastRange.{LastRange}
 use Rattle.latest_writes.specs.Ranges.{AreRanges}
 use Rattle.latest_writes.specs.inner.Ranges.{IsNextLaid, left_at}
-use Rattle.latest_writes.proofs.Laid.{first_limits, left_by_older, next_by_older, next_is_newer, next_is_part, nothing_left}
+use Rattle.latest_writes.proofs.NewerOverOlder.{first_limits, left_by_older, next_by_older, next_is_newer, next_is_part, nothing_left}
 use Rattle.latest_writes.proofs.overlay.next_range.Goals as goal
 
 pub returns-in-Some-clause-next : goal.returns-in-Some-clause-next

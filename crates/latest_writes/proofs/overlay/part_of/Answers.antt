@@ -1,7 +1,7 @@
 use Rattle.std.proofs.Common.{◌+◌, ◌-◌, drop, min, ap, sym, refl, subst, ◌∙◌, arith}
 use Rattle.latest_writes.specs.declared.range.LastRange.{LastRange}
 use Rattle.latest_writes.specs.inner.Ranges.{IsPartOf}
-use Rattle.latest_writes.proofs.Laid.{none_before_first, part_of_first}
+use Rattle.latest_writes.proofs.NewerOverOlder.{none_before_first, part_of_first}
 use Rattle.latest_writes.proofs.overlay.part_of.Goals as goal
 
 pub returns-then-to-first-clause-none : goal.returns-then-to-first-clause-none

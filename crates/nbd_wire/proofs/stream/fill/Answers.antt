@@ -3,7 +3,7 @@ use Rattle.std.proofs.lemmas.Result.{IfOk-weaker}
 use Rattle.nbd_wire.specs.declared.stream.State.{State}
 use Rattle.nbd_wire.specs.State.{kept}
 use Rattle.nbd_wire.specs.Stream.{reading, room_of}
-use Rattle.nbd_wire.proofs.Filling.{part_fills}
+use Rattle.nbd_wire.proofs.DataReadIntoRoom.{part_fills}
 use Rattle.nbd_wire.proofs.stream.fill.Goals as goal
 
 pub returns-in-Data-clause-ok : goal.returns-in-Data-clause-ok

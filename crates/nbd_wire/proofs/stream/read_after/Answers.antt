@@ -1,6 +1,6 @@
 use Rattle.std.proofs.Common.{◌≡◌, ◌<◌, ◌≤◌, ◌+◌, List, ℕ, ◌++◌, length, length-take, take, rules, arith, ◌∙◌}
 use Rattle.std.specs.Prelude.{◌-◌, replicate, vec_len}
-use Rattle.nbd_wire.proofs.Filling.{cut_behind, kept_front}
+use Rattle.nbd_wire.proofs.DataReadIntoRoom.{cut_behind, kept_front}
 use Rattle.nbd_wire.proofs.stream.read_after.Goals as goal
 
 pub returns-in-Ok-clause-ok : goal.returns-in-Ok-clause-ok

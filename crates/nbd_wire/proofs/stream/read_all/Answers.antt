@@ -3,7 +3,7 @@ use Rattle.std.proofs.lemmas.Bool.Decides.{nat_tests}
 use Rattle.std.specs.Prelude.{is_err, min}
 use Rattle.nbd_wire.specs.inner.State.{wanted_of}
 use Rattle.nbd_wire.specs.laws.Streams.{Step-none, Step-some, Step-starved, state_failed}
-use Rattle.nbd_wire.proofs.Parts.{Quiet-next}
+use Rattle.nbd_wire.proofs.UnfinishedPiece.{Quiet-next}
 use Rattle.nbd_wire.proofs.stream.read_all.Goals as goal
 
 some_left : (count : ℕ) → (count == 0) ≡ false → 0 < count

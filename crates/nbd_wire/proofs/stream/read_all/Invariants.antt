@@ -2,7 +2,7 @@ use Rattle.std.proofs.Common.{◌<◌, length}
 use Rattle.nbd_wire.specs.State.{kept, IsState}
 use Rattle.nbd_wire.specs.Stream.{reading, missing_len}
 use Rattle.nbd_wire.specs.laws.Streams.{Step}
-use Rattle.nbd_wire.proofs.Parts.{Quiet}
+use Rattle.nbd_wire.proofs.UnfinishedPiece.{Quiet}
 use Rattle.nbd_wire.proofs.stream.read_all.Given as goal
 
 abbrev pub invariant-loop-rest : goal.invariant-loop-rest

@@ -6,7 +6,7 @@ use Rattle.negotiation.specs.declared.end.End.{End}
 use Rattle.negotiation.specs.Hearing.{Hearing, ReadsOn}
 use Rattle.negotiation.specs.Serving.{IsServed, begun}
 use Rattle.negotiation.proofs.Serving.{agreed, base, memory_early, over, served_handshake, served_nothing, served_whole, stands}
-use Rattle.negotiation.proofs.Transmitting.{as_end}
+use Rattle.negotiation.proofs.AfterHandshake.{as_end}
 use Rattle.negotiation.proofs.connection.serve_session.Goals as goal
 
 -- the export that is offered, by what its calls say

@@ -4,7 +4,7 @@ use Rattle.negotiation.specs.declared.end.End.{End}
 use Rattle.negotiation.specs.declared.end.End.TheVariants.{IoFault}
 use Rattle.negotiation.specs.Serving.{Transmits}
 use Rattle.negotiation.specs.Talk.{Answers}
-use Rattle.negotiation.proofs.Transmitting.{answered, answered_part, as_end, behind_said, heard_end, heard_more, over, stopped, transmitting_start}
+use Rattle.negotiation.proofs.AfterHandshake.{answered, answered_part, as_end, behind_said, heard_end, heard_more, over, stopped, transmitting_start}
 use Rattle.negotiation.proofs.connection.transmit.Goals as goal
 
 pub loop-init : goal.loop-init

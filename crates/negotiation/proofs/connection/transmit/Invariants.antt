@@ -3,7 +3,7 @@ use Rattle.negotiation.specs.Dialog.{HasNoDisc}
 use Rattle.negotiation.specs.Session.{IsBehind, IsSaid, SessionState}
 use Rattle.negotiation.specs.Hearing.{piece_bytes}
 use Rattle.negotiation.specs.Serving.{Stands}
-use Rattle.negotiation.proofs.Transmitting.{Transmitting}
+use Rattle.negotiation.proofs.AfterHandshake.{Transmitting}
 use Rattle.negotiation.proofs.connection.transmit.Given as goal
 
 -- requests wait, and those before them were answered

@@ -1,5 +1,5 @@
 use Rattle.std.proofs.lemmas.Result.{IfOk-weaker}
-use Rattle.negotiation.proofs.Filling.{hands_filled}
+use Rattle.negotiation.proofs.ReadIntoRoom.{hands_filled}
 use Rattle.negotiation.proofs.session.fill.Goals as goal
 
 pub returns-in-Requests-clause-ok : goal.returns-in-Requests-clause-ok

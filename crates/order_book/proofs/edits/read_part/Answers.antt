@@ -7,7 +7,7 @@ use Rattle.image_model.specs.Edit.{edit_of}
 use Rattle.journal_format.specs.laws.Chained.{none_read}
 use Rattle.shared_cache.specs.laws.Views.{seen_missing}
 use Rattle.order_book.proofs.KeeperRefusalHandedOn.{err_with, failed_on, is_not, ok_is_none, on_err, on_ok, works_on}
-use Rattle.order_book.proofs.Missing.{lacks_of, missing_of}
+use Rattle.order_book.proofs.BlocksInMemory.{lacks_of, missing_of}
 use Rattle.order_book.proofs.EditBecomesCommand.{read_one}
 use Rattle.order_book.proofs.edits.read_part.Goals as goal
 

@@ -1,6 +1,6 @@
 use Rattle.std.proofs.Common.{◌+◌, arith, refl, sym}
 use Rattle.shared_cache.specs.laws.Views.{seen_missing}
-use Rattle.order_book.proofs.Missing.{lacks_at}
+use Rattle.order_book.proofs.BlocksInMemory.{lacks_at}
 use Rattle.order_book.proofs.reading.holds.Goals as goal
 
 pub returns-in_default : goal.returns-in_default

@@ -1,6 +1,6 @@
 use Rattle.std.proofs.Common.{inl, inr, ◌<◌, ◌+◌, ◌/◌, ◌∙◌, ap, refl, sym, subst, ℕ, List, [], length, get_or, arith}
 use Rattle.order_book.specs.Reading.{KeepsOrReads}
-use Rattle.order_book.proofs.Filled.{each_filled}
+use Rattle.order_book.proofs.CacheKeepsReads.{each_filled}
 use Rattle.order_book.proofs.KeepingBlocks.{all_kept_seen, more_kept}
 use Rattle.order_book.proofs.CacheShowsImage.{chunk_at}
 use Rattle.shared_cache.specs.Cache.{CacheState}

@@ -1,6 +1,6 @@
 use Rattle.std.proofs.Common.{◌<◌, ◌*◌, ◌/◌, inl, inr, length, arith}
 use Rattle.std.proofs.lemmas.Bool.{cases_lt}
-use Rattle.order_book.proofs.Missing.{lacks_at}
+use Rattle.order_book.proofs.BlocksInMemory.{lacks_at}
 use Rattle.order_book.proofs.reading.read_all_in_memory.Goals as goal
 
 pub returns-clause-there : goal.returns-clause-there

@@ -8,7 +8,7 @@ use Rattle.checkpoint.specs.declared.fault.KeeperFault.TheVariants.{DeviceFault,
 use Rattle.journal_format.specs.laws.Chained.{none_read, reads_on}
 use Rattle.shared_cache.specs.laws.Views.{seen_missing}
 use Rattle.order_book.proofs.KeeperRefusalHandedOn.{err_with, failed_on, is_not, not_failed, ok_is_none, on_err, on_ok}
-use Rattle.order_book.proofs.Missing.{lacks_at}
+use Rattle.order_book.proofs.BlocksInMemory.{lacks_at}
 use Rattle.order_book.proofs.reading.read_blocks.Goals as goal
 
 none_and_some : (seen : Option (List ℕ)) (bytes : List ℕ) → seen ≡ None → seen ≡ Some bytes → ⊥

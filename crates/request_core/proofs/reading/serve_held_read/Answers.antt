@@ -15,11 +15,11 @@ bytes_answer-requires-clause-zero g c =
     let items = c.cut.new.bytes.items in
     let read = c.read_in_memory.ensures in
     let size : length into ≡ c.in-Ok-vec.bytes.len = read.size ∙ ap length c.deref_mut.ensures.value ∙ sym c.in-Ok-vec.bytes.ok.0 in
-    let long : length into ≡ 4096 * blocks_met head.offset head.length = size ∙ c.in-Ok-vec.ensures.len ∙ c.bytes.ensures ∙ ap (λ (n : ℕ). 4096 * n) c.of-blocks.ensures.count in
+    let long : length into ≡ 4096 * blocks_met head.offset head.length = size ∙ c.in-Ok-vec.ensures.len ∙ c.bytes.ensures ∙ ap (λ (n : ℕ). 4096 * n) c.from_head-blocks.ensures.count in
     let part : items ≡ take head.length (drop (head.offset % 4096) into) = c.cut.ensures ∙ ap (λ (l : List ℕ). take head.length (drop (head.offset % 4096) l)) (whole c.in-Ok-vec.bytes.len into c.in-Ok-vec.bytes.items size) in
     let count = part_size head.offset head.length into items part long in
     λ k below other. part_zero head.offset head.length into items part long c.args.order.now.cache
-    (λ j k bytes under inside seen. read.in_memory j k bytes under inside (ap (λ (n : ℕ). bytes_seen c.args.order.now.cache (n + j)) c.of-blocks.ensures.first ∙ seen))
+    (λ j k bytes under inside seen. read.in_memory j k bytes under inside (ap (λ (n : ℕ). bytes_seen c.args.order.now.cache (n + j)) c.from_head-blocks.ensures.first ∙ seen))
     k (let held = c.cut.new.bytes.ok.0 in omega (arith, below, held, count)) other
 
 pub returns : goal.returns
@@ -30,10 +30,10 @@ returns g c =
     let items = c.cut.new.bytes.items in
     let read = c.read_in_memory.ensures in
     let size : length into ≡ c.in-Ok-vec.bytes.len = read.size ∙ ap length c.deref_mut.ensures.value ∙ sym c.in-Ok-vec.bytes.ok.0 in
-    let long : length into ≡ 4096 * blocks_met head.offset head.length = size ∙ c.in-Ok-vec.ensures.len ∙ c.bytes.ensures ∙ ap (λ (n : ℕ). 4096 * n) c.of-blocks.ensures.count in
+    let long : length into ≡ 4096 * blocks_met head.offset head.length = size ∙ c.in-Ok-vec.ensures.len ∙ c.bytes.ensures ∙ ap (λ (n : ℕ). 4096 * n) c.from_head-blocks.ensures.count in
     let part : items ≡ take head.length (drop (head.offset % 4096) into) = c.cut.ensures ∙ ap (λ (l : List ℕ). take head.length (drop (head.offset % 4096) l)) (whole c.in-Ok-vec.bytes.len into c.in-Ok-vec.bytes.items size) in
-    let first = c.of-blocks.ensures.first in
-    let seen : (j : ℕ) → bytes_seen old.cache (c.of-blocks.result.first + j) ≡ bytes_seen old.cache (head.offset / 4096 + j) = λ j. ap (λ (n : ℕ). bytes_seen old.cache (n + j)) first in
+    let first = c.from_head-blocks.ensures.first in
+    let seen : (j : ℕ) → bytes_seen old.cache (c.from_head-blocks.result.first + j) ≡ bytes_seen old.cache (head.offset / 4096 + j) = λ j. ap (λ (n : ℕ). bytes_seen old.cache (n + j)) first in
     let given : Image = record { blocks = 0; byte = λ place. get_or items (place - head.offset) 0; kind = λ block. state_at old.cache.states block } in
     let at : (n : ℕ) → get_or items (head.offset + n - head.offset) 0 ≡ get_or items n 0 = λ n. ap (λ (m : ℕ). get_or items m 0) (let same : head.offset + n - head.offset ≡ n = omega arith in same) in
     let answer_is = c.bytes_answer.ensures given (λ block. refl) (λ k below. sym (at k)) in
@@ -68,8 +68,8 @@ returns-in_default g c = inl c.refuse.ensures
 pub returns-in_default-vec : goal.returns-in_default-vec
 returns-in_default-vec g c = inl c.refuse-in_default-vec.ensures
 
-pub of-blocks-requires : goal.of-blocks-requires
-of-blocks-requires g c = omega arith
+pub from_head-blocks-requires : goal.from_head-blocks-requires
+from_head-blocks-requires g c = omega arith
 
 pub bytes-requires : goal.bytes-requires
 bytes-requires g c = search rules
@@ -111,6 +111,6 @@ bytes_answer-requires-clause-size g c =
     let items = c.cut.new.bytes.items in
     let read = c.read_in_memory.ensures in
     let size : length into ≡ c.in-Ok-vec.bytes.len = read.size ∙ ap length c.deref_mut.ensures.value ∙ sym c.in-Ok-vec.bytes.ok.0 in
-    let long : length into ≡ 4096 * blocks_met head.offset head.length = size ∙ c.in-Ok-vec.ensures.len ∙ c.bytes.ensures ∙ ap (λ (n : ℕ). 4096 * n) c.of-blocks.ensures.count in
+    let long : length into ≡ 4096 * blocks_met head.offset head.length = size ∙ c.in-Ok-vec.ensures.len ∙ c.bytes.ensures ∙ ap (λ (n : ℕ). 4096 * n) c.from_head-blocks.ensures.count in
     let part : items ≡ take head.length (drop (head.offset % 4096) into) = c.cut.ensures ∙ ap (λ (l : List ℕ). take head.length (drop (head.offset % 4096) l)) (whole c.in-Ok-vec.bytes.len into c.in-Ok-vec.bytes.items size) in
     c.cut.new.bytes.ok.0 ∙ part_size head.offset head.length into items part long

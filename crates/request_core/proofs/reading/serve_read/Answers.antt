@@ -21,12 +21,12 @@ bytes_answer-requires-clause-zero g c =
     let items = c.cut.new.bytes.items in
     let read = c.in-Ok-read_with.ensures in
     let size : length into ≡ c.in-Ok-vec.bytes.len = read.size ∙ ap length c.deref_mut.ensures.value ∙ sym c.in-Ok-vec.bytes.ok.0 in
-    let long : length into ≡ 4096 * blocks_met head.offset head.length = size ∙ c.in-Ok-vec.ensures.len ∙ c.bytes.ensures ∙ ap (λ (n : ℕ). 4096 * n) c.of-blocks.ensures.count in
+    let long : length into ≡ 4096 * blocks_met head.offset head.length = size ∙ c.in-Ok-vec.ensures.len ∙ c.bytes.ensures ∙ ap (λ (n : ℕ). 4096 * n) c.from_head-blocks.ensures.count in
     let part : items ≡ take head.length (drop (head.offset % 4096) into) = c.cut.ensures ∙ ap (λ (l : List ℕ). take head.length (drop (head.offset % 4096) l)) (whole c.in-Ok-vec.bytes.len into c.in-Ok-vec.bytes.items size) in
     let count = part_size head.offset head.length into items part long in
     let states = read.view.states in
     λ k below other. part_zero head.offset head.length into items part long old.cache
-    (λ j k bytes under inside seen. read.in_memory j k bytes under inside (ap (λ (n : ℕ). bytes_seen old.cache (n + j)) c.of-blocks.ensures.first ∙ seen))
+    (λ j k bytes under inside seen. read.in_memory j k bytes under inside (ap (λ (n : ℕ). bytes_seen old.cache (n + j)) c.from_head-blocks.ensures.first ∙ seen))
     k (let held = c.cut.new.bytes.ok.0 in omega (arith, below, held, count))
     (λ is. other (ap (λ (s : List Kind). state_at s ((head.offset + k) / 4096)) states ∙ is))
 
@@ -39,10 +39,10 @@ returns g c = record {
       let items = c.cut.new.bytes.items in
       let read = c.in-Ok-read_with.ensures in
       let size : length into ≡ c.in-Ok-vec.bytes.len = read.size ∙ ap length c.deref_mut.ensures.value ∙ sym c.in-Ok-vec.bytes.ok.0 in
-      let long : length into ≡ 4096 * blocks_met head.offset head.length = size ∙ c.in-Ok-vec.ensures.len ∙ c.bytes.ensures ∙ ap (λ (n : ℕ). 4096 * n) c.of-blocks.ensures.count in
+      let long : length into ≡ 4096 * blocks_met head.offset head.length = size ∙ c.in-Ok-vec.ensures.len ∙ c.bytes.ensures ∙ ap (λ (n : ℕ). 4096 * n) c.from_head-blocks.ensures.count in
       let part : items ≡ take head.length (drop (head.offset % 4096) into) = c.cut.ensures ∙ ap (λ (l : List ℕ). take head.length (drop (head.offset % 4096) l)) (whole c.in-Ok-vec.bytes.len into c.in-Ok-vec.bytes.items size) in
-      let first = c.of-blocks.ensures.first in
-      let seen : (j : ℕ) → bytes_seen old.cache (c.of-blocks.result.first + j) ≡ bytes_seen old.cache (head.offset / 4096 + j) = λ j. ap (λ (n : ℕ). bytes_seen old.cache (n + j)) first in
+      let first = c.from_head-blocks.ensures.first in
+      let seen : (j : ℕ) → bytes_seen old.cache (c.from_head-blocks.result.first + j) ≡ bytes_seen old.cache (head.offset / 4096 + j) = λ j. ap (λ (n : ℕ). bytes_seen old.cache (n + j)) first in
       let states = read.view.states in
       let given : Image = record { blocks = 0; byte = λ place. get_or items (place - head.offset) 0; kind = λ block. state_at old.cache.states block } in
       let at : (n : ℕ) → get_or items (head.offset + n - head.offset) 0 ≡ get_or items n 0 = λ n. ap (λ (m : ℕ). get_or items m 0) (let same : head.offset + n - head.offset ≡ n = omega arith in same) in
@@ -71,7 +71,7 @@ returns g c = record {
         holds = λ honest base fronts last holds. read.holds honest base fronts last holds;
         in_frames = λ failed. (read.hit (λ lacks. let wrong = read.failed.1 (failed, lacks) in cc)).0;
         there = λ failed. part_holds head.offset head.length into items part long (λ block r byte. bytes_seen old.cache block ≢ None)
-            (λ j r under inside none. let wrong = read.failed.1 (failed, lacks_at old.cache c.of-blocks.result.first (length c.deref_mut.result.now / 4096) j (let size = read.size in omega (arith, under, size)) (seen j ∙ none)) in cc);
+            (λ j r under inside none. let wrong = read.failed.1 (failed, lacks_at old.cache c.from_head-blocks.result.first (length c.deref_mut.result.now / 4096) j (let size = read.size in omega (arith, under, size)) (seen j ∙ none)) in cc);
       }));
   hit = search rules;
   count = ap (λ (k : KeeperState g.row.D.Denot). k.count) c.in-Ok-read_with.ensures.keeper_ok;
@@ -109,8 +109,8 @@ read_runs-requires-clause-few g c = c.requires.few
 pub read_runs-requires-clause-inside : goal.read_runs-requires-clause-inside
 read_runs-requires-clause-inside g c = c.requires.inside
 
-pub of-blocks-requires : goal.of-blocks-requires
-of-blocks-requires g c = omega arith
+pub from_head-blocks-requires : goal.from_head-blocks-requires
+from_head-blocks-requires g c = omega arith
 
 pub bytes-requires : goal.bytes-requires
 bytes-requires g c = search rules
@@ -164,7 +164,7 @@ bytes_answer-requires-clause-size g c =
     let items = c.cut.new.bytes.items in
     let read = c.in-Ok-read_with.ensures in
     let size : length into ≡ c.in-Ok-vec.bytes.len = read.size ∙ ap length c.deref_mut.ensures.value ∙ sym c.in-Ok-vec.bytes.ok.0 in
-    let long : length into ≡ 4096 * blocks_met head.offset head.length = size ∙ c.in-Ok-vec.ensures.len ∙ c.bytes.ensures ∙ ap (λ (n : ℕ). 4096 * n) c.of-blocks.ensures.count in
+    let long : length into ≡ 4096 * blocks_met head.offset head.length = size ∙ c.in-Ok-vec.ensures.len ∙ c.bytes.ensures ∙ ap (λ (n : ℕ). 4096 * n) c.from_head-blocks.ensures.count in
     let part : items ≡ take head.length (drop (head.offset % 4096) into) = c.cut.ensures ∙ ap (λ (l : List ℕ). take head.length (drop (head.offset % 4096) l)) (whole c.in-Ok-vec.bytes.len into c.in-Ok-vec.bytes.items size) in
     c.cut.new.bytes.ok.0 ∙ part_size head.offset head.length into items part long
 

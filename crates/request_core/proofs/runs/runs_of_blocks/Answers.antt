@@ -3,7 +3,7 @@ use Rattle.std.specs.Global.{Vec}
 use Rattle.alloc_map.specs.Codes.{state_at}
 use Rattle.nbd_wire.specs.declared.message.Run.{Run}
 use Rattle.export_model.specs.Shown.{read_status_of, runs_from}
-use Rattle.request_core.proofs.Joined.{block_more, one_block, run_of}
+use Rattle.request_core.proofs.RunsGrow.{block_more, one_block, run_of}
 use Rattle.request_core.proofs.runs.runs_of_blocks.Goals as goal
 use Rattle.request_core.proofs.runs.runs_of_blocks.Goals.{then-status-last, else-status-last+in_ok-push}
 

@@ -8,7 +8,7 @@ use Rattle.image_model.specs.declared.command.Kind.TheVariants.{Data}
 use Rattle.nbd_wire.specs.declared.message.Run.{Run}
 use Rattle.export_model.specs.Shown.{cut_behind, cut_front, cut_to, runs_from, runs_met, status_of}
 use Rattle.request_core.proofs.Cuts.{turn_ends, turn_goes, turn_stops}
-use Rattle.request_core.proofs.Joined.{run_of}
+use Rattle.request_core.proofs.RunsGrow.{run_of}
 use Rattle.request_core.proofs.Stretches.{as_run, first_runs, one_some, one_within, runs_some, runs_within}
 use Rattle.request_core.proofs.runs.status_runs.Goals as goal
 

@@ -4,7 +4,7 @@ use Rattle.export_model.specs.Verdict.{IsServedRange}
 use Rattle.image_model.specs.declared.geometry.Geometry.{Geometry}
 use Rattle.nbd_wire.specs.declared.head.RequestHead.{RequestHead}
 use Rattle.request_core.specs.Reading.{IsHeldReadServed, IsStatusServed}
-use Rattle.request_core.proofs.Needing.{lacks_blocks, lacks_given, neither_3, neither_7, not_read}
+use Rattle.request_core.proofs.WhoNeedsDevice.{lacks_blocks, lacks_given, neither_3, neither_7, not_read}
 use Rattle.request_core.proofs.Passes.{held_passes, not_grown, status_passes}
 use Rattle.export_model.specs.Log.{flush_waits, is_flush}
 use Rattle.marks.specs.Known.{PassState}
@@ -40,7 +40,7 @@ returns-then-holds g c = record {
   serves = inr (c.requires.works, (sym (ap (λ (h : RequestHead). h.kind) c.head-head.ensures) ∙ c.in-0.is), refl, subst (λ (h : RequestHead). IsHeldReadServed h c.args.order.now c.serve_held_read.result) c.head-head.ensures c.serve_held_read.ensures);
   needs = (
     λ e. absurd (false≢true e),
-    λ needs. absurd (not_read c.args.request c.args.order.now (sym (ap (λ (h : RequestHead). h.kind) c.head-head.ensures) ∙ c.in-0.is) (λ lacks. false≢true (sym (c.holds.ensures.1 (lacks_blocks c.args.request c.args.order.now c.head-head.result c.of-blocks.result.first c.of-blocks.result.count c.head-head.ensures c.of-blocks.ensures.first c.of-blocks.ensures.count lacks)) ∙ c.if-holds.true)) needs.2),
+    λ needs. absurd (not_read c.args.request c.args.order.now (sym (ap (λ (h : RequestHead). h.kind) c.head-head.ensures) ∙ c.in-0.is) (λ lacks. false≢true (sym (c.holds.ensures.1 (lacks_blocks c.args.request c.args.order.now c.head-head.result c.from_head-blocks.result.first c.from_head-blocks.result.count c.head-head.ensures c.from_head-blocks.ensures.first c.from_head-blocks.ensures.count lacks)) ∙ c.if-holds.true)) needs.2),
   );
   handed_back = tt;
   unchanged = tt;
@@ -53,7 +53,7 @@ pub returns-else-holds : goal.returns-else-holds
 returns-else-holds g c = record {
   blocks = refl;
   serves = tt;
-  needs = (λ e. (refl, c.requires.works, inl ((sym (ap (λ (h : RequestHead). h.kind) c.head-head.ensures) ∙ c.in-0.is), lacks_given c.args.request c.args.order.now c.head-head.result c.of-blocks.result.first c.of-blocks.result.count c.head-head.ensures c.of-blocks.ensures.first c.of-blocks.ensures.count (c.holds.ensures.0 c.if-holds.false))), λ needs. refl);
+  needs = (λ e. (refl, c.requires.works, inl ((sym (ap (λ (h : RequestHead). h.kind) c.head-head.ensures) ∙ c.in-0.is), lacks_given c.args.request c.args.order.now c.head-head.result c.from_head-blocks.result.first c.from_head-blocks.result.count c.head-head.ensures c.from_head-blocks.ensures.first c.from_head-blocks.ensures.count (c.holds.ensures.0 c.if-holds.false))), λ needs. refl);
   handed_back = refl;
   unchanged = (refl, refl);
   pass = tt;
@@ -61,8 +61,8 @@ returns-else-holds g c = record {
   grown = not_grown _ _ refl;
 }
 
-pub of-blocks-requires : goal.of-blocks-requires
-of-blocks-requires g c = let range = in_range _ _ _ 0 c.head-head.ensures c.in-0.is (λ e. cc) c.requires.range in omega (arith, range.inside)
+pub from_head-blocks-requires : goal.from_head-blocks-requires
+from_head-blocks-requires g c = let range = in_range _ _ _ 0 c.head-head.ensures c.in-0.is (λ e. cc) c.requires.range in omega (arith, range.inside)
 
 pub holds-requires : goal.holds-requires
 holds-requires g c = search rules

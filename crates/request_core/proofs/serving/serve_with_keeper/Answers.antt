@@ -10,7 +10,7 @@ use Rattle.request_core.specs.Reading.{IsReadServed}
 use Rattle.request_core.specs.Serving.{HasSent, IsClientServed, IsPassServed}
 use Rattle.request_core.specs.Outcomes.{IsWriteAsked}
 use Rattle.request_core.proofs.ServedWithoutKeeper.{read_leaves, read_mark, read_passes, served_here}
-use Rattle.request_core.proofs.Needing.{is_edit, neither_3, not_read}
+use Rattle.request_core.proofs.WhoNeedsDevice.{is_edit, neither_3, not_read}
 use Rattle.request_core.proofs.Clients.{client_read}
 use Rattle.request_core.proofs.serving.serve_with_keeper.Goals as goal
 use Rattle.export_model.specs.Log.{edit_asked, is_write}

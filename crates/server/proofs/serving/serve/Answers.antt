@@ -2,7 +2,7 @@ use Rattle.std.proofs.lemmas.Grind.{merely}
 use Rattle.std.proofs.Common.{List, [], ◌+◌, length, subst, sym}
 use Rattle.export.specs.Left.{LeavesHistory}
 use Rattle.export.specs.Trusted.{IsTrusted, image_found}
-use Rattle.server.proofs.Served.{unlogged}
+use Rattle.server.proofs.DeviceAfterServing.{unlogged}
 use Rattle.server.proofs.serving.serve.Goals as goal
 
 pub returns-in-Err : goal.returns-in-Err

@@ -13,7 +13,7 @@ use Rattle.image_model.specs.Change.{Change}
 use Rattle.negotiation.specs.Answered.{offered}
 use Rattle.server.specs.Sessions.{AreServed, HasAll}
 use Rattle.shared_store.specs.Orders.{IsRight}
-use Rattle.server.proofs.Served.{unlogged}
+use Rattle.server.proofs.DeviceAfterServing.{unlogged}
 use Rattle.server.proofs.serving.serve_logged.Goals as goal
 
 pub returns : goal.returns

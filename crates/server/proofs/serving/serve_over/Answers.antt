@@ -1,7 +1,7 @@
 use Rattle.std.proofs.lemmas.Grind.{merely}
 use Rattle.std.proofs.Common.{arith, length, subst, sym, ◌+◌, ◌∙◌, []}
 use Rattle.export.specs.Left.{LeavesHistory}
-use Rattle.server.proofs.Served.{both_ok, from_start, ok_of, on_ok, reaching, unlogged}
+use Rattle.server.proofs.DeviceAfterServing.{both_ok, from_start, ok_of, on_ok, reaching, unlogged}
 use Rattle.server.proofs.serving.serve_over.Goals as goal
 
 pub returns-in-Ok-clause-left : goal.returns-in-Ok-clause-left

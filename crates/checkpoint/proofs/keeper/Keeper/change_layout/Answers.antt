@@ -10,7 +10,7 @@ use Rattle.device_image.specs.Keeps.{Keeps}
 use Rattle.device_image.specs.Stands.{StandsFor}
 use Rattle.device_image.specs.laws.Kept.{kept_content}
 use Rattle.checkpoint.specs.Upgrade.{HasEitherLayout}
-use Rattle.checkpoint.proofs.HeaderLeft.{header_left}
+use Rattle.checkpoint.proofs.HeaderAfterCrash.{header_left}
 use Rattle.checkpoint.specs.Keeper.{AreSized, IsSized, faults_by}
 use Rattle.checkpoint.specs.inner.Upgrade.{IsLayoutFault}
 use Rattle.checkpoint.specs.declared.fault.KeeperFault.{KeeperFault}
@@ -125,7 +125,7 @@ returns-in-Ok g c = record {
       (upgrade_next _ before image number inside one none sound geometry c.in-One.is given.2 given.0 given.1 header header_is) in
       let later = g.D.Disk.state c.change_header.new.disk in
       let later_sound = subst (λ e. IsSound e later) call.extent (g.met.D.Disk.sound c.change_header.new.disk (call.honest.1 trusted)) in
-      let from = c.area_from-from.ensures.place ∙ ap (λ (size : Geometry). area_at size header.first_area) c.of.ensures in
+      let from = c.area_from-from.ensures.place ∙ ap (λ (size : Geometry). area_at size header.first_area) c.from_geometry.ensures in
       let bytes = c.area_size.ensures in
       let next = c.next.ensures in
       let area_is : c.new.result ≡ record { from = area_at geometry header.first_area; bytes = area_size geometry; blocks = geometry.blocks; next = c.self.inside.area.next; gate = 0; touched = [] } =

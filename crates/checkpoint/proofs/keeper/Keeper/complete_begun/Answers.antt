@@ -9,7 +9,7 @@ use Rattle.checkpoint.specs.Steps.{behind_first}
 use Rattle.checkpoint.specs.inner.Recovery.{IsBegun}
 use Rattle.checkpoint.specs.declared.fault.KeeperFault.TheVariants.{DeviceFault}
 use Rattle.device_image.specs.Keeps.{Keeps}
-use Rattle.checkpoint.proofs.HeaderLeft.{header_left}
+use Rattle.checkpoint.proofs.HeaderAfterCrash.{header_left}
 use Rattle.checkpoint.proofs.RecoveryKeepsImage.{begun_left, step_next}
 use Rattle.checkpoint.proofs.keeper.Keeper.complete_begun.Goals as goal
 

@@ -10,7 +10,7 @@ use Rattle.checkpoint.specs.inner.Recovery.{IsRecoveryFault}
 use Rattle.checkpoint.specs.declared.fault.KeeperFault.{KeeperFault}
 use Rattle.checkpoint.specs.declared.fault.KeeperFault.TheVariants.{NumbersFull}
 use Rattle.checkpoint.proofs.ExcludedRefusals.{err_given, both_ways, given, ok_apart, same_answer, same_fault}
-use Rattle.checkpoint.proofs.HeaderLeft.{header_left}
+use Rattle.checkpoint.proofs.HeaderAfterCrash.{header_left}
 use Rattle.checkpoint.proofs.RecoveryKeepsImage.{copied_first, copied_last, copied_next, header_of, in_time, keeps_by, left_next, still_kept}
 use Rattle.checkpoint.proofs.keeper.Keeper.copy_all.Goals as goal
 

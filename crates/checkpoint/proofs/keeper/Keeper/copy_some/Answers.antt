@@ -19,7 +19,7 @@ use Rattle.device_image.specs.Keeps.{Keeps}
 use Rattle.device_image.specs.Stands.{StandsFor}
 use Rattle.device_image.specs.laws.Kept.{kept_content}
 use Rattle.checkpoint.specs.Headers.{HasHeader}
-use Rattle.checkpoint.proofs.HeaderLeft.{header_left, header_torn}
+use Rattle.checkpoint.proofs.HeaderAfterCrash.{header_left, header_torn}
 use Rattle.regions.specs.Layout.{block_at}
 use Rattle.checkpoint.proofs.CopyKeepsImage.{copy_held, copy_left}
 use Rattle.checkpoint.proofs.keeper.Keeper.copy_some.Goals as goal
@@ -354,7 +354,7 @@ returns-in-Ok g c = record {
       let inside = subst (λ (k : KeeperState g.row.D.Denot). Holds k (g.D.Disk.state k.disk) base fronts last) (sym c.self.view_is) holds in
       let sound = subst (λ (k : KeeperState g.row.D.Denot). g.D.Disk.honest k.disk) (sym c.self.view_is) honest in
       let put = c.in-Some-next_copy.put in
-      let place : block_at c.of-regions.result.geometry put.first ≡ block_at inside.keeps.stands.header.geometry put.first = ap (λ (size : Geometry). block_at size put.first) (c.of-regions.ensures ∙ inside.keeps.sizes) in
+      let place : block_at c.from_geometry-regions.result.geometry put.first ≡ block_at inside.keeps.stands.header.geometry put.first = ap (λ (size : Geometry). block_at size put.first) (c.from_geometry-regions.ensures ∙ inside.keeps.sizes) in
       let count : length c.deref_mut.result.now ≡ 4096 * put.blocks = omega (arith, c.deref_mut.ensures.len, c.in_ok-buffer.ensures.len) in
       copy_held _ (g.D.Disk.state c.self.inside.disk) base fronts last inside c.in-Some.plan c.self.inside.waiting.items (ap (λ (p : Option PlanState). plans_of p c.self.inside.waiting.items) c.in-Some.is) put c.args.most c.in-Some-next_copy.ensures.some c.in-Some-next_copy.ensures.unmapped
       (g.D.Disk.state c.copy_over.new.disk) _ _ _ _ c.advance.new.self place count (search rules)
@@ -363,7 +363,7 @@ returns-in-Ok g c = record {
       let put = c.in-Some-next_copy.put in
       subst (λ (k : KeeperState g.row.D.Denot). g.D.Disk.honest k.disk → Keeps k (g.D.Disk.state k.disk) image number → LeavesOnly (g.D.Disk.state k.disk) (g.D.Disk.state c.copy_over.new.disk) (λ content. StandsFor content image number)) c.self.view_is
       (λ sound inside.
-      let place : block_at c.of-regions.result.geometry put.first ≡ block_at inside.stands.header.geometry put.first = ap (λ (size : Geometry). block_at size put.first) (c.of-regions.ensures ∙ inside.sizes) in
+      let place : block_at c.from_geometry-regions.result.geometry put.first ≡ block_at inside.stands.header.geometry put.first = ap (λ (size : Geometry). block_at size put.first) (c.from_geometry-regions.ensures ∙ inside.sizes) in
       let count : length c.deref_mut.result.now ≡ 4096 * put.blocks = omega (arith, c.deref_mut.ensures.len, c.in_ok-buffer.ensures.len) in
       weakens (c.copy_over.ensures.any_moment sound)
       (copy_left _ (g.D.Disk.state c.self.inside.disk) image number inside c.in-Some.plan c.self.inside.waiting.items (ap (λ (p : Option PlanState). plans_of p c.self.inside.waiting.items) c.in-Some.is) put c.args.most c.in-Some-next_copy.ensures.some c.in-Some-next_copy.ensures.unmapped _ _ place count))
@@ -424,7 +424,7 @@ returns g c = record {
       let put = c.in-Some-next_copy.put in
       subst (λ (k : KeeperState g.row.D.Denot). g.D.Disk.honest k.disk → Keeps k (g.D.Disk.state k.disk) image number → LeavesOnly (g.D.Disk.state k.disk) (g.D.Disk.state c.copy_over.new.disk) (λ content. StandsFor content image number)) c.self.view_is
       (λ sound inside.
-      let place : block_at c.of-regions.result.geometry put.first ≡ block_at inside.stands.header.geometry put.first = ap (λ (size : Geometry). block_at size put.first) (c.of-regions.ensures ∙ inside.sizes) in
+      let place : block_at c.from_geometry-regions.result.geometry put.first ≡ block_at inside.stands.header.geometry put.first = ap (λ (size : Geometry). block_at size put.first) (c.from_geometry-regions.ensures ∙ inside.sizes) in
       let count : length c.deref_mut.result.now ≡ 4096 * put.blocks = omega (arith, c.deref_mut.ensures.len, c.in_ok-buffer.ensures.len) in
       weakens (c.copy_over.ensures.any_moment sound)
       (copy_left _ (g.D.Disk.state c.self.inside.disk) image number inside c.in-Some.plan c.self.inside.waiting.items (ap (λ (p : Option PlanState). plans_of p c.self.inside.waiting.items) c.in-Some.is) put c.args.most c.in-Some-next_copy.ensures.some c.in-Some-next_copy.ensures.unmapped _ _ place count))
@@ -437,4 +437,4 @@ returns g c = record {
 
 pub copy_over-requires-clause-device : goal.copy_over-requires-clause-device
 copy_over-requires-clause-device g c =
-    c.self.invariant.0 ∙ ap (λ (size : Geometry). device_bytes_of size.blocks size.area) (sym c.of-regions.ensures)
+    c.self.invariant.0 ∙ ap (λ (size : Geometry). device_bytes_of size.blocks size.area) (sym c.from_geometry-regions.ensures)

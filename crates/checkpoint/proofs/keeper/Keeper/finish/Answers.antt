@@ -16,7 +16,7 @@ use Rattle.device_image.specs.Stands.{StandsFor}
 use Rattle.device_image.specs.laws.Counted.{remembers_still}
 use Rattle.device_image.specs.laws.Kept.{kept_content}
 use Rattle.checkpoint.specs.Headers.{HasHeaderOrNext}
-use Rattle.checkpoint.proofs.HeaderLeft.{header_changes, header_left}
+use Rattle.checkpoint.proofs.HeaderAfterCrash.{header_changes, header_left}
 use Rattle.checkpoint.specs.Keeper.{AreSized, IsSized, faults_by, plans_of, refused_by}
 use Rattle.checkpoint.specs.declared.fault.KeeperFault.{KeeperFault}
 use Rattle.checkpoint.specs.Steps.{IsFinishTime, IsStepFault, finished_by, first_turned}

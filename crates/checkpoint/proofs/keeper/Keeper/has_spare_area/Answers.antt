@@ -9,7 +9,7 @@ use Rattle.checkpoint.proofs.keeper.Keeper.has_spare_area.Goals as goal
 pub returns-clause-spare : goal.returns-clause-spare
 returns-clause-spare g c =
     let inside = c.self.inside in
-    let turned : length c.args.self.now.turned ≡ inside.header.in_front =
+    let turned : length c.args.self.now.turned ≡ inside.header.before_last =
     ap (λ (k : KeeperState g.row.D.Denot). length k.turned) (sym c.self.view_is) ∙ turned-length (plans_of inside.plan inside.waiting.items) ∙ sym c.self.invariant.5 in
     let areas : c.areas.result ≡ areas_in c.args.self.now.geometry = c.areas.ensures ∙ ap (λ (k : KeeperState g.row.D.Denot). areas_in k.geometry) c.self.view_is in (
       λ less. grind (arith, nat_tests, less, turned, areas),

@@ -1,7 +1,7 @@
 use Rattle.std.proofs.Common.{◌+◌, ◌%◌, ◌<◌, ℕ, ap, rules, subst, sym}
 use Rattle.std.proofs.lemmas.Result.{IfOk-from_err}
 use Rattle.checkpoint.specs.inner.Report.{AreOf}
-use Rattle.checkpoint.proofs.Reported.{is_report, sized_of}
+use Rattle.checkpoint.proofs.ReportMatchesDevice.{is_report, sized_of}
 use Rattle.checkpoint.proofs.keeper.Keeper.inspect.Goals as goal
 
 pub states_after_plans-requires-clause-plans : goal.states_after_plans-requires-clause-plans

@@ -8,7 +8,7 @@ use Rattle.device_image.specs.Stands.{StandsFor}
 use Rattle.checkpoint.specs.Opening.{IsAtRest, IsOpeningRefused, headers_for}
 use Rattle.checkpoint.specs.declared.fault.KeeperFault.TheVariants.{DeviceFault, NumbersFull}
 use Rattle.checkpoint.proofs.OpeningKeepsImage.{keeps_same, passes, stood}
-use Rattle.checkpoint.proofs.Reopened.{CrashAndHeaders, empty_base, headers_left, headers_most, is_full, read_leaves, recovers, refused_opening, refused_recovery, rests, stood_content}
+use Rattle.checkpoint.proofs.OpeningFindsHeader.{CrashAndHeaders, empty_base, headers_left, headers_most, is_full, read_leaves, recovers, refused_opening, refused_recovery, rests, stood_content}
 use Rattle.checkpoint.proofs.keeper.Keeper.open.Goals as goal
 
 pub returns-in-Ok-recover-clause-found : goal.returns-in-Ok-recover-clause-found

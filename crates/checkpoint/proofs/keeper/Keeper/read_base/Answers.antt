@@ -6,7 +6,7 @@ use Rattle.checkpoint.specs.Keeper.{AreSized, IsSized, faults_by, refused_by}
 use Rattle.checkpoint.specs.declared.fault.KeeperFault.{KeeperFault}
 use Rattle.checkpoint.proofs.ExcludedRefusals.{device_apart, ok_apart}
 use Rattle.checkpoint.proofs.BaseRead.{base_byte, holds_reading}
-use Rattle.checkpoint.proofs.Readings.{seen_steady}
+use Rattle.checkpoint.proofs.SyncedReads.{seen_steady}
 use Rattle.device_image.specs.Holds.{Holds}
 use Rattle.device_image.specs.Keeper.{KeeperState}
 use Rattle.image_model.specs.declared.geometry.Geometry.{Geometry}
@@ -93,7 +93,7 @@ returns-in-Ok g c =
           let inside = subst (λ (k : KeeperState g.row.D.Denot). Holds k (g.D.Disk.state k.disk) base front last) (sym c.self.view_is) holds in
           let read : IsOnlyRead (g.D.Disk.state c.self.inside.disk) (g.D.Disk.state c.read_blocks.new.disk) = record { kept = call.kept sound; any_moment = call.any_moment sound } in
           call.bytes sound k below
-          ∙ ap (λ (size : Geometry). slice_index (g.D.Disk.state c.read_blocks.new.disk).seen (block_at size c.args.first + k)) c.of.ensures
+          ∙ ap (λ (size : Geometry). slice_index (g.D.Disk.state c.read_blocks.new.disk).seen (block_at size c.args.first + k)) c.from_geometry.ensures
           ∙ ap (λ (content : List ℕ). slice_index content (block_at c.self.inside.header.geometry c.args.first + k)) (sym (seen_steady inside.keeps.steady read))
           ∙ base_byte _ (g.D.Disk.state c.self.inside.disk) base front last inside c.args.first k kind none;
     }

@@ -24,13 +24,13 @@ use Rattle.device_image.specs.Stands.{StandsFor}
 use Rattle.device_image.specs.laws.CheckpointBounds.{plan_left}
 use Rattle.device_image.specs.laws.Kept.{kept_content}
 use Rattle.checkpoint.specs.Headers.{HasHeaderOrNext}
-use Rattle.checkpoint.proofs.HeaderLeft.{header_left, header_turns}
+use Rattle.checkpoint.proofs.HeaderAfterCrash.{header_left, header_turns}
 use Rattle.checkpoint.specs.Keeper.{AreSized, IsSized, faults_by, plans_of, refused_by}
 use Rattle.checkpoint.specs.Steps.{IsRotateTime, IsStepFault, phase_with, rotated_by}
 use Rattle.checkpoint.specs.declared.fault.KeeperFault.{KeeperFault}
 use Rattle.checkpoint.specs.declared.fault.KeeperFault.TheVariants.{NoMemory, DeviceFault}
 use Rattle.checkpoint.proofs.ExcludedRefusals.{Given, device_apart, err_given, failed-full, failed-not_now, full-failed, full-not_now, memory_apart, not_now-failed, no_memory, ok_apart, some_apart}
-use Rattle.checkpoint.proofs.Areas.{last-push}
+use Rattle.checkpoint.proofs.AreasReadInTurn.{last-push}
 use Rattle.checkpoint.proofs.HeaderChangeRemembers.{ArePlansSized, added, comes_next, current_held, from_above, last_counted, lefts-push, next_sized, phase-push, rotate_held, rotate_left, rotated_left, sized_after, slots_synced, turned-push, uncopied_after}
 use Rattle.checkpoint.proofs.keeper.Keeper.rotate.Goals as goal
 
@@ -43,36 +43,36 @@ invariant_of-self-in-Ok g c =
     let inside_header = c.self.inside.header in
     let header_is : IsRenewed inside_header (with_next inside_header) c.in-Some.header =
     subst (λ (change : HeaderChange). IsRenewed inside_header change c.in-Some.header) (c.with_next.ensures ∙ ap (λ (k : KeeperState g.row.D.Denot). with_next k.memory.header) (sym c.self.view_is)) c.in-Some.ensures.some in
-    let room : inside_header.in_front + 1 < areas_in inside_header.geometry =
-    subst (λ (k : KeeperState g.row.D.Denot). k.memory.header.in_front + 1 < areas_in k.memory.header.geometry) (sym c.self.view_is) (c.if-not-has_spare_area.ensures.room refl) in
+    let room : inside_header.before_last + 1 < areas_in inside_header.geometry =
+    subst (λ (k : KeeperState g.row.D.Denot). k.memory.header.before_last + 1 < areas_in k.memory.header.geometry) (sym c.self.view_is) (c.if-not-has_spare_area.ensures.room refl) in
     let from = c.next_area-next.result.from in
-    let from_is : from ≡ area_at inside_header.geometry (behind (areas_in inside_header.geometry) (suc inside_header.in_front) inside_header.first_area) =
+    let from_is : from ≡ area_at inside_header.geometry (behind (areas_in inside_header.geometry) (suc inside_header.before_last) inside_header.first_area) =
     ap (λ (a : AreaState). a.from) c.next_area-next.ensures in
     let old = c.self.inside.plan in
     let new = c.add_plan.new.plan in
     let waiting = c.self.inside.waiting.items in
     let more = c.add_plan.new.waiting.items in
-    let last = c.of-last.result in
+    let last = c.new-last.result in
     let some : IfSome old (λ first. (new ≡ Some first) × (more ≡ waiting ++ last ∷ [])) =
     subst (λ (w : List PlanState). IfSome old (λ first. (new ≡ Some first) × (more ≡ w ++ last ∷ []))) c.reserve.ensures.items c.add_plan.ensures.behind in
     let added_is : plans_of new more ≡ plans_of old waiting ++ last ∷ [] = added old new waiting more last c.add_plan.ensures.first some in
-    let last_is : IsPlanOf c.self.inside.area last = c.of-last.ensures in
-    let area_is : c.begin_turn.new.area ≡ record { from = from; bytes = area_size inside_header.geometry; blocks = inside_header.geometry.blocks; next = c.self.inside.area.next; gate = 0; touched = [] } =
+    let last_is : IsPlanOf c.self.inside.area last = c.new-last.ensures in
+    let area_is : c.start_area.new.area ≡ record { from = from; bytes = area_size inside_header.geometry; blocks = inside_header.geometry.blocks; next = c.self.inside.area.next; gate = 0; touched = [] } =
     c.in-Ok.ensures.ok
     ∙ ap (λ (a : AreaState). let area : AreaState = record { from = from; bytes = a.bytes; blocks = a.blocks; next = a.next; gate = 0; touched = [] } in area) c.next_area-next.ensures in
     let extent = g.D.Disk.extent c.self.inside.disk in
-    let now = g.D.Disk.extent c.begin_turn.new.disk in
+    let now = g.D.Disk.extent c.start_area.new.disk in
     let header = c.in-Some.header in
     let is = c.self.invariant in
-    let sized : ArePlansSized old waiting inside_header.geometry extent inside_header.in_front = record { first = is.2; behind = is.3; none = is.4; many = is.5 } in
+    let sized : ArePlansSized old waiting inside_header.geometry extent inside_header.before_last = record { first = is.2; behind = is.3; none = is.4; many = is.5 } in
     let kept = last_is.remembered in
     let last_sized : IsSized last.first inside_header.geometry extent = record { bytes = kept.bytes ∙ is.6.bytes; blocks = kept.blocks ∙ is.6.blocks; inside = omega (arith, is.6.inside, kept.from, kept.bytes) } in
-    let after = sized_after old new waiting more last inside_header.geometry extent inside_header.in_front c.add_plan.ensures.first some sized last_sized in
+    let after = sized_after old new waiting more last inside_header.geometry extent inside_header.before_last c.add_plan.ensures.first some sized last_sized in
     let same : extent ≡ now = sym c.in-Ok.ensures.extent in
-    let there = subst (λ (n : ℕ). ArePlansSized new more header.geometry now n) (sym header_is.in_front)
-    (subst (λ (e : ℕ). ArePlansSized new more header.geometry e (inside_header.in_front + 1)) same
-    (subst (λ (size : Geometry). ArePlansSized new more size extent (inside_header.in_front + 1)) (sym header_is.geometry) after)) in
-    let area = next_sized c.begin_turn.new.area inside_header.geometry (suc inside_header.in_front) inside_header.first_area extent inside_header.first_inside
+    let there = subst (λ (n : ℕ). ArePlansSized new more header.geometry now n) (sym header_is.before_last)
+    (subst (λ (e : ℕ). ArePlansSized new more header.geometry e (inside_header.before_last + 1)) same
+    (subst (λ (size : Geometry). ArePlansSized new more size extent (inside_header.before_last + 1)) (sym header_is.geometry) after)) in
+    let area = next_sized c.start_area.new.area inside_header.geometry (suc inside_header.before_last) inside_header.first_area extent inside_header.first_inside
     (ap (λ (a : AreaState). a.from) area_is ∙ from_is) (ap (λ (a : AreaState). a.bytes) area_is) (ap (λ (a : AreaState). a.blocks) area_is) is.0 in
     let fits : c.self.inside.count < 18446744073709551616 = omega arith in (
       sym same ∙ is.0 ∙ ap (λ (size : Geometry). device_bytes_of size.blocks size.area) (sym header_is.geometry),
@@ -81,7 +81,7 @@ invariant_of-self-in-Ok g c =
       there.behind,
       there.none,
       there.many,
-      subst (λ (e : ℕ). IsSized c.begin_turn.new.area header.geometry e) same (subst (λ (size : Geometry). IsSized c.begin_turn.new.area size extent) (sym header_is.geometry) area),
+      subst (λ (e : ℕ). IsSized c.start_area.new.area header.geometry e) same (subst (λ (size : Geometry). IsSized c.start_area.new.area size extent) (sym header_is.geometry) area),
       ap (λ (a : AreaState). a.next) area_is ∙ is.7,
       λ none. (
         ap (λ (a : AreaState). a.touched) area_is,
@@ -91,11 +91,11 @@ invariant_of-self-in-Ok g c =
       uncopied_after old new waiting more last c.add_plan.ensures.first some is.9 last_is.uncopied,
     )
 
-pub begin_turn-requires-clause-inside : goal.begin_turn-requires-clause-inside
-begin_turn-requires-clause-inside g c =
+pub start_area-requires-clause-inside : goal.start_area-requires-clause-inside
+start_area-requires-clause-inside g c =
     let header = c.self.inside.header in
     let next = c.next_area-next.ensures in
-    (next_sized c.next_area-next.result header.geometry (suc header.in_front) header.first_area (g.D.Disk.extent c.self.inside.disk) header.first_inside
+    (next_sized c.next_area-next.result header.geometry (suc header.before_last) header.first_area (g.D.Disk.extent c.self.inside.disk) header.first_inside
     (ap (λ (a : AreaState). a.from) next) (ap (λ (a : AreaState). a.bytes) next) (ap (λ (a : AreaState). a.blocks) next) c.self.invariant.0).inside
 
 pub invariant_of-self : goal.invariant_of-self
@@ -232,20 +232,20 @@ returns-in-Ok g c =
     let inside_header = c.self.inside.header in
     let header_is : IsRenewed inside_header (with_next inside_header) c.in-Some.header =
     subst (λ (change : HeaderChange). IsRenewed inside_header change c.in-Some.header) (c.with_next.ensures ∙ ap (λ (k : KeeperState g.row.D.Denot). with_next k.memory.header) (sym c.self.view_is)) c.in-Some.ensures.some in
-    let room : inside_header.in_front + 1 < areas_in inside_header.geometry =
-    subst (λ (k : KeeperState g.row.D.Denot). k.memory.header.in_front + 1 < areas_in k.memory.header.geometry) (sym c.self.view_is) (c.if-not-has_spare_area.ensures.room refl) in
+    let room : inside_header.before_last + 1 < areas_in inside_header.geometry =
+    subst (λ (k : KeeperState g.row.D.Denot). k.memory.header.before_last + 1 < areas_in k.memory.header.geometry) (sym c.self.view_is) (c.if-not-has_spare_area.ensures.room refl) in
     let from = c.next_area-next.result.from in
-    let from_is : from ≡ area_at inside_header.geometry (behind (areas_in inside_header.geometry) (suc inside_header.in_front) inside_header.first_area) =
+    let from_is : from ≡ area_at inside_header.geometry (behind (areas_in inside_header.geometry) (suc inside_header.before_last) inside_header.first_area) =
     ap (λ (a : AreaState). a.from) c.next_area-next.ensures in
     let old = c.self.inside.plan in
     let new = c.add_plan.new.plan in
     let waiting = c.self.inside.waiting.items in
     let more = c.add_plan.new.waiting.items in
-    let last = c.of-last.result in
+    let last = c.new-last.result in
     let some : IfSome old (λ first. (new ≡ Some first) × (more ≡ waiting ++ last ∷ [])) =
     subst (λ (w : List PlanState). IfSome old (λ first. (new ≡ Some first) × (more ≡ w ++ last ∷ []))) c.reserve.ensures.items c.add_plan.ensures.behind in
     let added_is : plans_of new more ≡ plans_of old waiting ++ last ∷ [] = added old new waiting more last c.add_plan.ensures.first some in
-    let last_is : IsPlanOf c.self.inside.area last = c.of-last.ensures in
+    let last_is : IsPlanOf c.self.inside.area last = c.new-last.ensures in
     let works = ap (λ (k : KeeperState g.row.D.Denot). k.failed) (sym c.self.view_is) ∙ c.if-self.false in
     let time : IsRotateTime c.args.self.now = (c.if-not-has_spare_area.ensures.spare.0 refl, subst (λ (k : KeeperState g.row.D.Denot). 0 < k.used) c.self.view_is (above_zero c.self.inside.area.gate c.if-is_empty.ensures)) in record {
       ok =
@@ -259,24 +259,24 @@ returns-in-Ok g c =
           let turned = ap turned_of added_is ∙ turned-push plans last ∙ ap (λ (n : ℕ). turned_of plans ++ n ∷ []) count in
           let lefts = ap lefts_of added_is ∙ lefts-push plans last ∙ ap (λ (n : ℕ). lefts_of plans ++ n ∷ []) left in
           let phase = ap phase_of added_is ∙ phase-push plans last (ap (λ (p : PlanState). p.mapped) last_is.uncopied) ∙ ap (phase_with (phase_of plans)) left in
-          let used : c.begin_turn.new.area.gate ≡ 0 = ap (λ (a : AreaState). a.gate) c.in-Ok.ensures.ok in
-          let memory : Memory = record { header = c.in-Some.header; slot = c.other-self-inside.result; map = inside.map; plans = plans_of new more; area = c.begin_turn.new.area } in
+          let used : c.start_area.new.area.gate ≡ 0 = ap (λ (a : AreaState). a.gate) c.in-Ok.ensures.ok in
+          let memory : Memory = record { header = c.in-Some.header; slot = c.other-self-inside.result; map = inside.map; plans = plans_of new more; area = c.start_area.new.area } in
           let made : KeeperState g.row.D.Denot = record {
-            disk = c.begin_turn.new.disk;
+            disk = c.start_area.new.disk;
             geometry = c.in-Some.header.geometry;
             generation = c.in-Some.header.generation;
             count = inside.count;
             base = c.in-Some.header.base;
             turned = turned_of (plans_of new more);
             lefts = lefts_of (plans_of new more);
-            used = c.begin_turn.new.area.gate;
+            used = c.start_area.new.area.gate;
             phase = phase_of (plans_of new more);
             failed = inside.failed;
             memory = memory;
           } in
-          subst (λ (k : KeeperState g.row.D.Denot). made ≡ rotated_by k c.begin_turn.new.disk memory) c.self.view_is
+          subst (λ (k : KeeperState g.row.D.Denot). made ≡ rotated_by k c.start_area.new.disk memory) c.self.view_is
           (λ i. record {
-            disk = c.begin_turn.new.disk;
+            disk = c.start_area.new.disk;
             geometry = header_is.geometry i;
             generation = header_is.generation i;
             count = inside.count;
@@ -324,45 +324,45 @@ returns-in-Ok g c =
           let before = g.D.Disk.state c.self.inside.disk in
           let sound = g.met.D.Disk.sound c.self.inside.disk trusted in
           let call = c.in-Ok.ensures in
-          let area_is : c.begin_turn.new.area ≡ record { from = from; bytes = area_size inside_header.geometry; blocks = inside_header.geometry.blocks; next = c.self.inside.area.next; gate = 0; touched = [] } =
+          let area_is : c.start_area.new.area ≡ record { from = from; bytes = area_size inside_header.geometry; blocks = inside_header.geometry.blocks; next = c.self.inside.area.next; gate = 0; touched = [] } =
           c.in-Ok.ensures.ok
           ∙ ap (λ (a : AreaState). let area : AreaState = record { from = from; bytes = a.bytes; blocks = a.blocks; next = a.next; gate = 0; touched = [] } in area) c.next_area-next.ensures in
           let turn = call.begun trusted inside.keeps.steady (slots_synced _ before _ _ inside.keeps sound)
           (from_above _ before _ _ inside.keeps sound c.in-Some.header header_is room from from_is) inside_header (current_held _ before _ _ inside.keeps sound)
           (comes_next _ before _ _ inside.keeps sound c.in-Some.header header_is room from from_is) in
-          let after = g.D.Disk.state c.begin_turn.new.disk in
-          let after_sound = subst (λ (e : ℕ). IsSound e after) call.extent (g.met.D.Disk.sound c.begin_turn.new.disk (call.honest.1 trusted)) in
+          let after = g.D.Disk.state c.start_area.new.disk in
+          let after_sound = subst (λ (e : ℕ). IsSound e after) call.extent (g.met.D.Disk.sound c.start_area.new.disk (call.honest.1 trusted)) in
           let made : List PlanState → KeeperState g.row.D.Denot = λ all. record {
-            disk = c.begin_turn.new.disk;
+            disk = c.start_area.new.disk;
             geometry = c.in-Some.header.geometry;
             generation = c.in-Some.header.generation;
             count = c.self.inside.count;
             base = c.in-Some.header.base;
             turned = turned_of (plans_of new more);
             lefts = lefts_of (plans_of new more);
-            used = c.begin_turn.new.area.gate;
+            used = c.start_area.new.area.gate;
             phase = phase_of all;
             failed = c.self.inside.failed;
-            memory = record { header = c.in-Some.header; slot = c.other-self-inside.result; map = c.self.inside.map; plans = all; area = c.begin_turn.new.area };
+            memory = record { header = c.in-Some.header; slot = c.other-self-inside.result; map = c.self.inside.map; plans = all; area = c.start_area.new.area };
           } in
-          rotate_held _ before base fronts last_commands inside sound c.in-Some.header header_is room from from_is after after_sound (made (plans_of new more)) c.other-self-inside.result c.begin_turn.new.area last
+          rotate_held _ before base fronts last_commands inside sound c.in-Some.header header_is room from from_is after after_sound (made (plans_of new more)) c.other-self-inside.result c.start_area.new.area last
           c.other-self-inside.ensures turn area_is last_is (ap made added_is);
       any_moment = λ honest image number keeps.
-          subst (λ (k : KeeperState g.row.D.Denot). g.D.Disk.honest k.disk → Keeps k (g.D.Disk.state k.disk) image number → LeavesOnly (g.D.Disk.state k.disk) (g.D.Disk.state c.begin_turn.new.disk) (λ content. StandsFor content image number)) c.self.view_is
+          subst (λ (k : KeeperState g.row.D.Denot). g.D.Disk.honest k.disk → Keeps k (g.D.Disk.state k.disk) image number → LeavesOnly (g.D.Disk.state k.disk) (g.D.Disk.state c.start_area.new.disk) (λ content. StandsFor content image number)) c.self.view_is
           (λ trusted inside.
           let before = g.D.Disk.state c.self.inside.disk in
           let sound = g.met.D.Disk.sound c.self.inside.disk trusted in
-          weakens (c.begin_turn.ensures.any_moment trusted inside.steady (slots_synced _ before image number inside sound)
+          weakens (c.start_area.ensures.any_moment trusted inside.steady (slots_synced _ before image number inside sound)
           (from_above _ before image number inside sound c.in-Some.header header_is room from from_is) inside_header (current_held _ before image number inside sound)
           (comes_next _ before image number inside sound c.in-Some.header header_is room from from_is))
           (rotate_left _ before image number inside sound c.in-Some.header header_is room from from_is))
           honest keeps;
       header = λ honest image number keeps.
-          subst (λ (k : KeeperState g.row.D.Denot). g.D.Disk.honest k.disk → Keeps k (g.D.Disk.state k.disk) image number → LeavesOnly (g.D.Disk.state k.disk) (g.D.Disk.state c.begin_turn.new.disk) (HasHeaderOrNext k.geometry k.generation)) c.self.view_is
+          subst (λ (k : KeeperState g.row.D.Denot). g.D.Disk.honest k.disk → Keeps k (g.D.Disk.state k.disk) image number → LeavesOnly (g.D.Disk.state k.disk) (g.D.Disk.state c.start_area.new.disk) (HasHeaderOrNext k.geometry k.generation)) c.self.view_is
           (λ trusted inside.
           let before = g.D.Disk.state c.self.inside.disk in
           let sound = g.met.D.Disk.sound c.self.inside.disk trusted in
-          weakens (c.begin_turn.ensures.any_moment trusted inside.steady (slots_synced _ before image number inside sound)
+          weakens (c.start_area.ensures.any_moment trusted inside.steady (slots_synced _ before image number inside sound)
           (from_above _ before image number inside sound c.in-Some.header header_is room from from_is) inside_header (current_held _ before image number inside sound)
           (comes_next _ before image number inside sound c.in-Some.header header_is room from from_is))
           (header_turns _ before image number inside sound c.in-Some.header header_is.generation header_is.geometry from))
@@ -377,7 +377,7 @@ returns-in-Err g c =
       ok = tt;
       err =
           let inside = c.self.inside in
-          let disk = c.begin_turn.new.disk in
+          let disk = c.start_area.new.disk in
           let made : List PlanState → KeeperState g.row.D.Denot = λ waiting. let plans = plans_of inside.plan waiting in record {
             disk = disk;
             geometry = inside.header.geometry;
@@ -413,37 +413,37 @@ returns-in-Err g c =
       phase = λ commands remembers. tt;
       held = λ honest base fronts last holds. tt;
       any_moment = λ honest image number keeps.
-          subst (λ (k : KeeperState g.row.D.Denot). g.D.Disk.honest k.disk → Keeps k (g.D.Disk.state k.disk) image number → LeavesOnly (g.D.Disk.state k.disk) (g.D.Disk.state c.begin_turn.new.disk) (λ content. StandsFor content image number)) c.self.view_is
+          subst (λ (k : KeeperState g.row.D.Denot). g.D.Disk.honest k.disk → Keeps k (g.D.Disk.state k.disk) image number → LeavesOnly (g.D.Disk.state k.disk) (g.D.Disk.state c.start_area.new.disk) (λ content. StandsFor content image number)) c.self.view_is
           (λ trusted inside.
           let before = g.D.Disk.state c.self.inside.disk in
           let sound = g.met.D.Disk.sound c.self.inside.disk trusted in
           let inside_header = c.self.inside.header in
           let header_is : IsRenewed inside_header (with_next inside_header) c.in-Some.header =
           subst (λ (change : HeaderChange). IsRenewed inside_header change c.in-Some.header) (c.with_next.ensures ∙ ap (λ (k : KeeperState g.row.D.Denot). with_next k.memory.header) (sym c.self.view_is)) c.in-Some.ensures.some in
-          let room : inside_header.in_front + 1 < areas_in inside_header.geometry =
-          subst (λ (k : KeeperState g.row.D.Denot). k.memory.header.in_front + 1 < areas_in k.memory.header.geometry) (sym c.self.view_is) (c.if-not-has_spare_area.ensures.room refl) in
+          let room : inside_header.before_last + 1 < areas_in inside_header.geometry =
+          subst (λ (k : KeeperState g.row.D.Denot). k.memory.header.before_last + 1 < areas_in k.memory.header.geometry) (sym c.self.view_is) (c.if-not-has_spare_area.ensures.room refl) in
           let from = c.next_area-next.result.from in
-          let from_is : from ≡ area_at inside_header.geometry (behind (areas_in inside_header.geometry) (suc inside_header.in_front) inside_header.first_area) =
+          let from_is : from ≡ area_at inside_header.geometry (behind (areas_in inside_header.geometry) (suc inside_header.before_last) inside_header.first_area) =
           ap (λ (a : AreaState). a.from) c.next_area-next.ensures in
-          weakens (c.begin_turn.ensures.any_moment trusted inside.steady (slots_synced _ before image number inside sound)
+          weakens (c.start_area.ensures.any_moment trusted inside.steady (slots_synced _ before image number inside sound)
           (from_above _ before image number inside sound c.in-Some.header header_is room from from_is) inside_header (current_held _ before image number inside sound)
           (comes_next _ before image number inside sound c.in-Some.header header_is room from from_is))
           (rotate_left _ before image number inside sound c.in-Some.header header_is room from from_is))
           honest keeps;
       header = λ honest image number keeps.
-          subst (λ (k : KeeperState g.row.D.Denot). g.D.Disk.honest k.disk → Keeps k (g.D.Disk.state k.disk) image number → LeavesOnly (g.D.Disk.state k.disk) (g.D.Disk.state c.begin_turn.new.disk) (HasHeaderOrNext k.geometry k.generation)) c.self.view_is
+          subst (λ (k : KeeperState g.row.D.Denot). g.D.Disk.honest k.disk → Keeps k (g.D.Disk.state k.disk) image number → LeavesOnly (g.D.Disk.state k.disk) (g.D.Disk.state c.start_area.new.disk) (HasHeaderOrNext k.geometry k.generation)) c.self.view_is
           (λ trusted inside.
           let before = g.D.Disk.state c.self.inside.disk in
           let sound = g.met.D.Disk.sound c.self.inside.disk trusted in
           let inside_header = c.self.inside.header in
           let header_is : IsRenewed inside_header (with_next inside_header) c.in-Some.header =
           subst (λ (change : HeaderChange). IsRenewed inside_header change c.in-Some.header) (c.with_next.ensures ∙ ap (λ (k : KeeperState g.row.D.Denot). with_next k.memory.header) (sym c.self.view_is)) c.in-Some.ensures.some in
-          let room : inside_header.in_front + 1 < areas_in inside_header.geometry =
-          subst (λ (k : KeeperState g.row.D.Denot). k.memory.header.in_front + 1 < areas_in k.memory.header.geometry) (sym c.self.view_is) (c.if-not-has_spare_area.ensures.room refl) in
+          let room : inside_header.before_last + 1 < areas_in inside_header.geometry =
+          subst (λ (k : KeeperState g.row.D.Denot). k.memory.header.before_last + 1 < areas_in k.memory.header.geometry) (sym c.self.view_is) (c.if-not-has_spare_area.ensures.room refl) in
           let from = c.next_area-next.result.from in
-          let from_is : from ≡ area_at inside_header.geometry (behind (areas_in inside_header.geometry) (suc inside_header.in_front) inside_header.first_area) =
+          let from_is : from ≡ area_at inside_header.geometry (behind (areas_in inside_header.geometry) (suc inside_header.before_last) inside_header.first_area) =
           ap (λ (a : AreaState). a.from) c.next_area-next.ensures in
-          weakens (c.begin_turn.ensures.any_moment trusted inside.steady (slots_synced _ before image number inside sound)
+          weakens (c.start_area.ensures.any_moment trusted inside.steady (slots_synced _ before image number inside sound)
           (from_above _ before image number inside sound c.in-Some.header header_is room from from_is) inside_header (current_held _ before image number inside sound)
           (comes_next _ before image number inside sound c.in-Some.header header_is room from from_is))
           (header_turns _ before image number inside sound c.in-Some.header header_is.generation header_is.geometry from))
@@ -456,9 +456,9 @@ with_next-requires g c = c.if-not-has_spare_area.ensures.room refl
 pub next-requires-clause-few : goal.next-requires-clause-few
 next-requires-clause-few g c =
     let header = c.self.inside.header in
-    let room : header.in_front + 1 < areas_in header.geometry =
-    subst (λ (k : KeeperState g.row.D.Denot). k.memory.header.in_front + 1 < areas_in k.memory.header.geometry) (sym c.self.view_is) (c.if-not-has_spare_area.ensures.room refl) in
-    subst (λ (change : HeaderChange). change.in_front < areas_in header.geometry) (sym (c.with_next.ensures ∙ ap (λ (k : KeeperState g.row.D.Denot). with_next k.memory.header) (sym c.self.view_is))) room
+    let room : header.before_last + 1 < areas_in header.geometry =
+    subst (λ (k : KeeperState g.row.D.Denot). k.memory.header.before_last + 1 < areas_in k.memory.header.geometry) (sym c.self.view_is) (c.if-not-has_spare_area.ensures.room refl) in
+    subst (λ (change : HeaderChange). change.before_last < areas_in header.geometry) (sym (c.with_next.ensures ∙ ap (λ (k : KeeperState g.row.D.Denot). with_next k.memory.header) (sym c.self.view_is))) room
 
 pub next-requires-clause-first : goal.next-requires-clause-first
 next-requires-clause-first g c =
@@ -467,7 +467,7 @@ next-requires-clause-first g c =
 
 pub next_area-next-requires : goal.next_area-next-requires
 next_area-next-requires g c =
-    subst (λ (k : KeeperState g.row.D.Denot). k.memory.header.in_front + 1 < areas_in k.memory.header.geometry) (sym c.self.view_is) (c.if-not-has_spare_area.ensures.room refl)
+    subst (λ (k : KeeperState g.row.D.Denot). k.memory.header.before_last + 1 < areas_in k.memory.header.geometry) (sym c.self.view_is) (c.if-not-has_spare_area.ensures.room refl)
 
 pub returns-in_err-touches : goal.returns-in_err-touches
 returns-in_err-touches g c =

@@ -6,7 +6,7 @@ use Rattle.device_image.specs.Stands.{StandsFor}
 use Rattle.checkpoint.specs.Opening.{IsFixedOrNot}
 use Rattle.checkpoint.specs.Upgrade.{HasEitherLayout, IsUpgradeRefused}
 use Rattle.checkpoint.specs.declared.fault.KeeperFault.TheVariants.{AreaSmall, NumbersFull}
-use Rattle.checkpoint.proofs.Reopened.{changes}
+use Rattle.checkpoint.proofs.OpeningFindsHeader.{changes}
 use Rattle.checkpoint.proofs.UpgradeKeepsImage.{device_left, full_areas, layout_passes, numbers_not_device, opening_passes, refused_layout, refused_still, refused_upgrade, small_areas, small_not_device}
 use Rattle.checkpoint.proofs.keeper.Keeper.upgrade.Goals as goal
 

@@ -21,7 +21,7 @@ use Rattle.device_image.specs.Keeps.{Keeps}
 use Rattle.device_image.specs.Stands.{StandsFor}
 use Rattle.device_image.specs.laws.Kept.{kept_content}
 use Rattle.checkpoint.specs.Headers.{HasHeader}
-use Rattle.checkpoint.proofs.HeaderLeft.{header_left, header_torn}
+use Rattle.checkpoint.proofs.HeaderAfterCrash.{header_left, header_torn}
 use Rattle.image_model.specs.Geometry.{map_bytes_of}
 use Rattle.regions.specs.Layout.{map_at}
 use Rattle.device_image.specs.inner.Copied.{IsMapStored}
@@ -420,7 +420,7 @@ returns-in-Ok g c = record {
       let inside = subst (λ (k : KeeperState g.row.D.Denot). Holds k (g.D.Disk.state k.disk) base fronts last) (sym c.self.view_is) holds in
       let sound = subst (λ (k : KeeperState g.row.D.Denot). g.D.Disk.honest k.disk) (sym c.self.view_is) honest in
       let call = c.in-Ok.ensures in
-      let geometry : c.of.result.geometry ≡ inside.keeps.stands.header.geometry = c.of.ensures ∙ inside.keeps.sizes in
+      let geometry : c.from_geometry.result.geometry ≡ inside.keeps.stands.header.geometry = c.from_geometry.ensures ∙ inside.keeps.sizes in
       let before = g.D.Disk.state c.self.inside.disk in
       let after = g.D.Disk.state c.store_map.new.disk in
       let stored : IsMapStored before (map_at inside.keeps.stands.header.geometry (other_of inside.keeps.stands.header.map_slot)) inside.keeps.stands.header.geometry.blocks c.in_ok-map.map after =
@@ -430,7 +430,7 @@ returns-in-Ok g c = record {
   any_moment = λ honest image number keeps.
       subst (λ (k : KeeperState g.row.D.Denot). g.D.Disk.honest k.disk → Keeps k (g.D.Disk.state k.disk) image number → LeavesOnly (g.D.Disk.state k.disk) (g.D.Disk.state c.store_map.new.disk) (λ content. StandsFor content image number)) c.self.view_is
       (λ sound inside.
-      let geometry : c.of.result.geometry ≡ inside.stands.header.geometry = c.of.ensures ∙ inside.sizes in
+      let geometry : c.from_geometry.result.geometry ≡ inside.stands.header.geometry = c.from_geometry.ensures ∙ inside.sizes in
       weakens (c.store_map.ensures.any_moment sound)
       (map_left _ (g.D.Disk.state c.self.inside.disk) image number inside _ _ (place_there geometry (search rules) (ap (λ (h : Header). other_of h.map_slot) inside.headed)) (ap (λ (size : Geometry). map_bytes_of size.blocks) geometry)))
       honest keeps;
@@ -489,7 +489,7 @@ returns-in-Err g c = record {
   any_moment = λ honest image number keeps.
       subst (λ (k : KeeperState g.row.D.Denot). g.D.Disk.honest k.disk → Keeps k (g.D.Disk.state k.disk) image number → LeavesOnly (g.D.Disk.state k.disk) (g.D.Disk.state c.store_map.new.disk) (λ content. StandsFor content image number)) c.self.view_is
       (λ sound inside.
-      let geometry : c.of.result.geometry ≡ inside.stands.header.geometry = c.of.ensures ∙ inside.sizes in
+      let geometry : c.from_geometry.result.geometry ≡ inside.stands.header.geometry = c.from_geometry.ensures ∙ inside.sizes in
       weakens (c.store_map.ensures.any_moment sound)
       (map_left _ (g.D.Disk.state c.self.inside.disk) image number inside _ _ (place_there geometry (search rules) (ap (λ (h : Header). other_of h.map_slot) inside.headed)) (ap (λ (size : Geometry). map_bytes_of size.blocks) geometry)))
       honest keeps;

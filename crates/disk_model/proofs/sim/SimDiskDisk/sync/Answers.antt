@@ -1,5 +1,5 @@
 use Rattle.std.proofs.Common.{refl}
-use Rattle.disk_model.proofs.Exits.{either_way}
+use Rattle.disk_model.proofs.AnswersOfCalls.{either_way}
 use Rattle.disk_model.proofs.Steps.{sync_moments, stays_along}
 use Rattle.disk_model.proofs.sim.SimDiskDisk.sync.Goals as goal
 

@@ -1,5 +1,5 @@
 use Rattle.std.proofs.Common.{◌∙◌, inl, inr, reverse, ap, sym}
-use Rattle.disk_model.proofs.Exits.{on_ok, on_err, either_way, on_fault, both}
+use Rattle.disk_model.proofs.AnswersOfCalls.{on_ok, on_err, either_way, on_fault, both}
 use Rattle.disk_model.proofs.Steps.{put_written, put_failed, put_moments, put_unsynced, put_synced, stays_along, same_failed}
 use Rattle.disk_model.proofs.sim.SimDiskDisk.write_at.Goals as goal
 

@@ -2,10 +2,10 @@ use Rattle.std.proofs.Common.{◌<◌, ◌≤◌, refl, subst, sym}
 use Rattle.std.specs.List.{sum}
 use Rattle.order_book.specs.Order.{OrderState}
 use Rattle.export.proofs.PendingIsBounded.{here_bounded}
-use Rattle.export.proofs.Clients.{comes_here}
+use Rattle.export.proofs.ClientAfterServing.{comes_here}
 use Rattle.export.proofs.AnswersFitRequests.{here_fits, writes}
 use Rattle.export.proofs.RequestIsServed.{no_room_as, shown_as}
-use Rattle.export.proofs.Submits.{served_for}
+use Rattle.export.proofs.PassAfterServing.{served_for}
 use Rattle.shared_store.specs.Orders.{Trusting}
 use Rattle.shared_store.specs.laws.Trust.{trusting}
 use Rattle.export.proofs.commit_queue.CommitQueue.serve.Goals as goal

@@ -27,24 +27,24 @@ returns-clause-over g c =
 pub serve_over-requires-clause-vouched : goal.serve_over-requires-clause-vouched
 serve_over-requires-clause-vouched g c =
     let vouched : ℕ → List ℕ → OrderState → Type 0 = λ first bytes order. ∥ g.B.ImageName.vouches (record { first = first; span = c.args.planned.span; bytes = bytes; order = order }) ∥₁ in
-    subst (λ (n : ℕ). vouched n c.args.bytes.items c.args.self.now.order) c.of.ensures.first
-    (subst (λ (l : List ℕ). vouched c.of.result.first l c.args.self.now.order) c.deref.ensures.value
-    (subst (λ (o : OrderState). vouched c.of.result.first c.deref.result.now o) c.order.ensures
-    (c.requires.vouched (record { first = c.of.result.first; span = c.args.planned.span; bytes = c.deref.result.now; order = c.order.result.now }) (c.vouch-is_vouched.ensures c.if-not-is_vouched.false))))
+    subst (λ (n : ℕ). vouched n c.args.bytes.items c.args.self.now.order) c.from_head.ensures.first
+    (subst (λ (l : List ℕ). vouched c.from_head.result.first l c.args.self.now.order) c.deref.ensures.value
+    (subst (λ (o : OrderState). vouched c.from_head.result.first c.deref.result.now o) c.order.ensures
+    (c.requires.vouched (record { first = c.from_head.result.first; span = c.args.planned.span; bytes = c.deref.result.now; order = c.order.result.now }) (c.vouch-is_vouched.ensures c.if-not-is_vouched.false))))
 
 pub vouch-is_vouched-requires-clause-given : goal.vouch-is_vouched-requires-clause-given
 vouch-is_vouched-requires-clause-given g c =
     let span = c.args.planned.span in
     given_same (λ (l : List ℕ). g.H.ReadUnlocked.gives c.args.handle.now c.args.planned.settled.number (block_at c.args.terms.now.geometry span.first) l) span.first span.end
-    (c.args.request.now.head.offset / 4096) c.of.result.first c.args.bytes.items c.deref.result.now
-    (sym (c.of.ensures.first ∙ ap (λ (h : RequestHead). h.offset / 4096) c.head-head.ensures)) (sym c.deref.ensures.value) c.requires.given
+    (c.args.request.now.head.offset / 4096) c.from_head.result.first c.args.bytes.items c.deref.result.now
+    (sym (c.from_head.ensures.first ∙ ap (λ (h : RequestHead). h.offset / 4096) c.head-head.ensures)) (sym c.deref.ensures.value) c.requires.given
 
 pub vouch-is_vouched-requires-clause-device : goal.vouch-is_vouched-requires-clause-device
 vouch-is_vouched-requires-clause-device g c = c.requires.may.geometry
 
 pub vouch-is_vouched-requires-clause-from : goal.vouch-is_vouched-requires-clause-from
 vouch-is_vouched-requires-clause-from g c =
-    subst (λ (n : ℕ). n ≤ c.args.planned.span.first) (sym (c.of.ensures.first ∙ ap (λ (h : RequestHead). h.offset / 4096) c.head-head.ensures)) c.requires.planned.from
+    subst (λ (n : ℕ). n ≤ c.args.planned.span.first) (sym (c.from_head.ensures.first ∙ ap (λ (h : RequestHead). h.offset / 4096) c.head-head.ensures)) c.requires.planned.from
 
 pub returns-clause-rest : goal.returns-clause-rest
 returns-clause-rest g c = (refl, refl, refl, refl, refl, refl, refl, refl, refl, refl, refl, refl, refl, refl, refl, refl)

@@ -2,10 +2,10 @@ use Rattle.std.proofs.Common.{◌∙◌, ◌<◌, ◌≤◌, subst, sym}
 use Rattle.std.specs.List.{sum}
 use Rattle.order_book.specs.Order.{OrderState}
 use Rattle.export.proofs.PendingIsBounded.{with_bounded}
-use Rattle.export.proofs.Clients.{comes_with}
+use Rattle.export.proofs.ClientAfterServing.{comes_with}
 use Rattle.export.proofs.AnswersFitRequests.{with_fits, writes}
 use Rattle.export.proofs.RequestIsServed.{no_room_as, shown_as}
-use Rattle.export.proofs.Submits.{served_with}
+use Rattle.export.proofs.PassAfterServing.{served_with}
 use Rattle.shared_store.specs.Orders.{Trusting}
 use Rattle.shared_store.specs.laws.Trust.{trusting}
 use Rattle.export.proofs.commit_queue.CommitQueue.serve_with.Goals as goal

@@ -41,7 +41,7 @@ returns g c = record { served = tt; unchanged = c.loop.invariant.pass }
 pub read_span-requires-clause-from : goal.read_span-requires-clause-from
 read_span-requires-clause-from g c =
     let first = c.loop.planned.span.first in
-    subst (λ (n : ℕ). n ≤ first) (sym (c.of-blocks.ensures.first ∙ ap (λ (h : RequestHead). h.offset / 4096) c.head-head.ensures)) c.loop.invariant.planned.from
+    subst (λ (n : ℕ). n ≤ first) (sym (c.from_head-blocks.ensures.first ∙ ap (λ (h : RequestHead). h.offset / 4096) c.head-head.ensures)) c.loop.invariant.planned.from
 
 pub read_span-requires-clause-order : goal.read_span-requires-clause-order
 read_span-requires-clause-order g c = c.loop.invariant.planned.order
@@ -49,18 +49,18 @@ read_span-requires-clause-order g c = c.loop.invariant.planned.order
 pub read_span-requires-clause-inside : goal.read_span-requires-clause-inside
 read_span-requires-clause-inside g c =
     let head = c.args.request.now.head in
-    inside c.loop.planned.span.end c.of-blocks.result.first (head.offset / 4096) (blocks_met head.offset head.length) (length c.deref_mut.result.now)
-    (c.of-blocks.ensures.first ∙ ap (λ (h : RequestHead). h.offset / 4096) c.head-head.ensures) c.loop.invariant.planned.end (c.deref_mut.ensures.len ∙ c.loop.invariant.size)
+    inside c.loop.planned.span.end c.from_head-blocks.result.first (head.offset / 4096) (blocks_met head.offset head.length) (length c.deref_mut.result.now)
+    (c.from_head-blocks.ensures.first ∙ ap (λ (h : RequestHead). h.offset / 4096) c.head-head.ensures) c.loop.invariant.planned.end (c.deref_mut.ensures.len ∙ c.loop.invariant.size)
 
 pub serve_over-served-requires-clause-planned : goal.serve_over-served-requires-clause-planned
 serve_over-served-requires-clause-planned g c = c.loop.invariant.planned
 
 pub serve_over-served-requires-clause-given : goal.serve_over-served-requires-clause-given
 serve_over-served-requires-clause-given g c =
-    let own = c.args.self.now.geometry in let span = c.loop.planned.span in let first = c.of-blocks.result.first in let into = c.read_span.new.into in let Gives = g.H.ReadUnlocked.gives c.in-Some-second_handle.handle c.loop.planned.settled.number in
+    let own = c.args.self.now.geometry in let span = c.loop.planned.span in let first = c.from_head-blocks.result.first in let into = c.read_span.new.into in let Gives = g.H.ReadUnlocked.gives c.in-Some-second_handle.handle c.loop.planned.settled.number in
     let place : Gives (block_at own span.first) (slice_range into (4096 * (span.first - first)) (4096 * (span.end - first))) = c.in-Ok.ensures.place in
     given Gives own c.args.terms.now.geometry span.first span.end first (c.args.request.now.head.offset / 4096) c.loop.bytes.len into c.loop.bytes.items
-    (c.args.self.now.sized ∙ sym c.requires.may.geometry) (c.of-blocks.ensures.first ∙ ap (λ (h : RequestHead). h.offset / 4096) c.head-head.ensures) (c.read_span.ensures.size ∙ c.deref_mut.ensures.len)
+    (c.args.self.now.sized ∙ sym c.requires.may.geometry) (c.from_head-blocks.ensures.first ∙ ap (λ (h : RequestHead). h.offset / 4096) c.head-head.ensures) (c.read_span.ensures.size ∙ c.deref_mut.ensures.len)
     place
 
 pub serve_over-served-requires-clause-may : goal.serve_over-served-requires-clause-may

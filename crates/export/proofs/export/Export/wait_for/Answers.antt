@@ -1,4 +1,4 @@
-use Rattle.export.proofs.Waits.{IsLater, found, looked, refused, then}
+use Rattle.export.proofs.PassAfterWait.{IsLater, found, looked, refused, then}
 use Rattle.export.proofs.export.Export.wait_for.Goals as goal
 
 pub returns-then-look_durable-number : goal.returns-then-look_durable-number

@@ -1,5 +1,5 @@
-use Rattle.export.proofs.Found.{found}
-use Rattle.export.proofs.Opened.{handed_back}
+use Rattle.export.proofs.OpeningFindsImage.{found}
+use Rattle.export.proofs.OpeningWithoutMemory.{handed_back}
 use Rattle.export.proofs.export.OpenDevice.open.Goals as goal
 
 pub returns-in-Err-new-clause-found : goal.returns-in-Err-new-clause-found

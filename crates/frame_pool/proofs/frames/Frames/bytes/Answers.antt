@@ -1,5 +1,5 @@
 use Rattle.std.proofs.Common.{rules}
-use Rattle.frame_pool.proofs.Written.{told_unwritten, told_written}
+use Rattle.frame_pool.proofs.FramesWithBytes.{told_unwritten, told_written}
 use Rattle.frame_pool.proofs.frames.Frames.bytes.Goals as goal
 
 pub get-requires : goal.get-requires

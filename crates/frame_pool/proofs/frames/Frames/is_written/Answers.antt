@@ -1,5 +1,5 @@
 use Rattle.std.proofs.Common.{◌<◌, ℕ, List, Option, None, length, get_or, is_some, sym, ap, ◌∙◌, subst}
-use Rattle.frame_pool.proofs.Written.{flag_read}
+use Rattle.frame_pool.proofs.FramesWithBytes.{flag_read}
 use Rattle.frame_pool.proofs.frames.Frames.is_written.Goals as goal
 
 pub returns : goal.returns

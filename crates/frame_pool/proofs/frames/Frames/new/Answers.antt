@@ -1,5 +1,5 @@
 use Rattle.std.proofs.Common.{ℕ, List, Option, sym, ap, ◌∙◌, map, is_some}
-use Rattle.frame_pool.proofs.Written.{no_bytes}
+use Rattle.frame_pool.proofs.FramesWithBytes.{no_bytes}
 use Rattle.frame_pool.proofs.frames.Frames.new.Goals as goal
 
 pub invariant_of-result : goal.invariant_of-result

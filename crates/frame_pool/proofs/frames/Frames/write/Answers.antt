@@ -1,7 +1,7 @@
 use Rattle.std.proofs.Common.{Bool, List, Some, None, set, map, is_some, true, ap, sym, ◌∙◌}
 use Rattle.std.proofs.lemmas.List.{map-set}
 use Rattle.std.proofs.Math.Seq.{map-set_same}
-use Rattle.frame_pool.proofs.Written.{told_written}
+use Rattle.frame_pool.proofs.FramesWithBytes.{told_written}
 use Rattle.frame_pool.proofs.frames.Frames.write.Goals as goal
 
 pub write_over-requires : goal.write_over-requires

@@ -2,8 +2,8 @@ use Rattle.std.proofs.Common.{rules, ◌≡◌, ℕ, get_or, slice_get, Some, sy
 use Rattle.frame_pool.specs.Linked.{LinkedState}
 use Rattle.frame_pool.specs.Lists.{HoldEach}
 use Rattle.frame_pool.specs.inner.Lists.{list_at}
-use Rattle.frame_pool.proofs.Moved.{front_held}
-use Rattle.frame_pool.proofs.Linked.{front_linked}
+use Rattle.frame_pool.proofs.FrameChangesList.{front_held}
+use Rattle.frame_pool.proofs.LinksOfLists.{front_linked}
 use Rattle.frame_pool.proofs.lists.FrameLists.front.Goals as goal
 
 pub returns-then-first-after-clause-front : goal.returns-then-first-after-clause-front

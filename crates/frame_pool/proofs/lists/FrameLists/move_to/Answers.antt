@@ -2,7 +2,7 @@ use Rattle.std.proofs.Common.{◌≡◌, ◌<◌, ℕ, ap, ◌∙◌, sym, subst
 use Rattle.frame_pool.specs.Linked.{LinkedState}
 use Rattle.frame_pool.specs.Lists.{moved, total}
 use Rattle.frame_pool.specs.Ring.{AreLinked, lists_of}
-use Rattle.frame_pool.proofs.Linked.{moved_links, linked_shown, lists_linked}
+use Rattle.frame_pool.proofs.LinksOfLists.{moved_links, linked_shown, lists_linked}
 use Rattle.frame_pool.proofs.lists.FrameLists.move_to.Goals as goal
 
 held : (frame : ℕ) (shown lists : LinkedState) → shown ≡ lists → frame < total lists.linked → frame < total shown.linked

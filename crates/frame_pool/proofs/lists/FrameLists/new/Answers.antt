@@ -1,8 +1,8 @@
 use Rattle.std.proofs.Common.{ap}
 use Rattle.frame_pool.specs.Nodes.{NodesState}
 use Rattle.frame_pool.specs.Ring.{AreLinked}
-use Rattle.frame_pool.proofs.Fresh.{AreLinked-fresh, fresh}
-use Rattle.frame_pool.proofs.Linked.{linked_shown, lists_linked}
+use Rattle.frame_pool.proofs.AscendingLinks.{AreLinked-fresh, fresh}
+use Rattle.frame_pool.proofs.LinksOfLists.{linked_shown, lists_linked}
 use Rattle.frame_pool.proofs.lists.FrameLists.new.Goals as goal
 
 ring_made : (c : goal.In_ok-ring) → AreLinked c.args.frames c.in_ok-ring.field-0.next c.in_ok-ring.field-0.previous (fresh c.args.frames)

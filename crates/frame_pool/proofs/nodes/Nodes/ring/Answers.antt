@@ -1,5 +1,5 @@
 use Rattle.std.proofs.Common.{arith}
-use Rattle.frame_pool.proofs.Ringed.{AreFresh, AreWritten-fresh, nodes_fresh}
+use Rattle.frame_pool.proofs.RingInMemory.{AreFresh, AreWritten-fresh, nodes_fresh}
 use Rattle.frame_pool.proofs.nodes.Nodes.ring.Goals as goal
 
 -- all nodes at the loop's end

@@ -1,5 +1,5 @@
 use Rattle.std.proofs.Common.{◌≡◌, length}
-use Rattle.frame_pool.proofs.Ringed.{AreFresh}
+use Rattle.frame_pool.proofs.RingInMemory.{AreFresh}
 use Rattle.frame_pool.proofs.nodes.Nodes.ring.Given as goal
 
 abbrev pub invariant-loop-node : goal.invariant-loop-node

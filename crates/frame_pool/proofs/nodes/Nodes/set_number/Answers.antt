@@ -1,6 +1,6 @@
 use Rattle.std.proofs.Common.{ap, ◌∙◌, rules}
 use Rattle.frame_pool.specs.Numbers.{option_of}
-use Rattle.frame_pool.proofs.Ringed.{AreWritten-set, number_set, option_of-unwrap_or}
+use Rattle.frame_pool.proofs.RingInMemory.{AreWritten-set, number_set, option_of-unwrap_or}
 use Rattle.frame_pool.proofs.nodes.Nodes.set_number.Goals as goal
 
 pub invariant_of-self : goal.invariant_of-self

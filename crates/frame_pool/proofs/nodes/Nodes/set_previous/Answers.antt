@@ -1,5 +1,5 @@
 use Rattle.std.proofs.Common.{rules}
-use Rattle.frame_pool.proofs.Ringed.{AreWritten-set, previous_set}
+use Rattle.frame_pool.proofs.RingInMemory.{AreWritten-set, previous_set}
 use Rattle.frame_pool.proofs.nodes.Nodes.set_previous.Goals as goal
 
 pub invariant_of-self : goal.invariant_of-self

@@ -1,4 +1,4 @@
-use Rattle.frame_pool.proofs.Numbered.{IsPool_seen}
+use Rattle.frame_pool.proofs.FrameNumbers.{IsPool_seen}
 use Rattle.frame_pool.proofs.pool.FramePool.evict_front.Goals as goal
 
 pub returns-in_err-frame-clause-pool : goal.returns-in_err-frame-clause-pool

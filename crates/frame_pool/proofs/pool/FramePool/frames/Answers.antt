@@ -1,4 +1,4 @@
-use Rattle.frame_pool.proofs.Numbered.{IsPool_seen}
+use Rattle.frame_pool.proofs.FrameNumbers.{IsPool_seen}
 use Rattle.frame_pool.proofs.pool.FramePool.frames.Goals as goal
 
 pub returns-clause-pool : goal.returns-clause-pool

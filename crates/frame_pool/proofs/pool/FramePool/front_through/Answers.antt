@@ -2,7 +2,7 @@ use Rattle.std.proofs.Common.{◌≡◌, ℕ, Option, None, Some, sym, ap, ◌�
 use Rattle.std.proofs.lemmas.Bool.{le-leb, lt-leb}
 use Rattle.frame_pool.specs.Numbers.{number_at}
 use Rattle.frame_pool.specs.Pool.{PoolState, front_through}
-use Rattle.frame_pool.proofs.Numbered.{IsPool_seen, front_through-some}
+use Rattle.frame_pool.proofs.FrameNumbers.{IsPool_seen, front_through-some}
 use Rattle.frame_pool.proofs.pool.FramePool.front_through.Goals as goal
 
 pub returns-in_err-frame-clause-pool : goal.returns-in_err-frame-clause-pool

@@ -1,6 +1,6 @@
 use Rattle.std.proofs.Common.{ℕ, Option, ap, ◌∙◌, is_some}
 use Rattle.frame_pool.specs.Pool.{PoolState, is_dirty}
-use Rattle.frame_pool.proofs.Numbered.{is_some-kept}
+use Rattle.frame_pool.proofs.FrameNumbers.{is_some-kept}
 use Rattle.frame_pool.proofs.pool.FramePool.is_dirty.Goals as goal
 
 pub returns : goal.returns

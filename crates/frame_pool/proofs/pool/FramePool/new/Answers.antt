@@ -1,7 +1,7 @@
 use Rattle.std.proofs.Common.{◌+◌, ◌<◌, ◌^◌, length, arith}
 use Rattle.frame_pool.specs.Numbers.{AreNumbered}
-use Rattle.frame_pool.proofs.Numbered.{IsPool_numbered}
-use Rattle.frame_pool.proofs.Fresh.{have_fresh, numbered_fresh, pool_fresh}
+use Rattle.frame_pool.proofs.FrameNumbers.{IsPool_numbered}
+use Rattle.frame_pool.proofs.AscendingLinks.{have_fresh, numbered_fresh, pool_fresh}
 use Rattle.frame_pool.proofs.pool.FramePool.new.Goals as goal
 
 numbers_now : (c : goal.In_ok-new-2) → AreNumbered (length c.in_ok-new-2.field-0) c.in_ok-new.field-0.linked c.in_ok-new.field-0.numbers 0

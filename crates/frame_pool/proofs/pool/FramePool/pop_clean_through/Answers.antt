@@ -3,8 +3,8 @@ use Rattle.frame_pool.specs.declared.place.Place.TheVariants.{Clean}
 use Rattle.frame_pool.specs.Cells.{IsWritten}
 use Rattle.frame_pool.specs.Numbers.{AreNumbered}
 use Rattle.frame_pool.specs.Pool.{PoolState, front_through, with_clean}
-use Rattle.frame_pool.proofs.Numbered.{IsPool_numbered, numbered_moved, frame_inside, front_through-held, pool-clean, seen_moved}
-use Rattle.frame_pool.proofs.Written.{have_moved}
+use Rattle.frame_pool.proofs.FrameNumbers.{IsPool_numbered, numbered_moved, frame_inside, front_through-held, pool-clean, seen_moved}
+use Rattle.frame_pool.proofs.FramesWithBytes.{have_moved}
 use Rattle.frame_pool.proofs.pool.FramePool.pop_clean_through.Goals as goal
 
 -- the front is dirty, and so it has bytes

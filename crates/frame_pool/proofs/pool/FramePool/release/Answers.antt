@@ -2,8 +2,8 @@ use Rattle.std.proofs.Common.{length, ap, ◌∙◌, refl, rules}
 use Rattle.frame_pool.specs.declared.place.Place.TheVariants.{Free}
 use Rattle.frame_pool.specs.Numbers.{AreNumbered}
 use Rattle.frame_pool.specs.Pool.{PoolState, with_free}
-use Rattle.frame_pool.proofs.Numbered.{IsPool_numbered, numbered_moved, frame_inside, pool-free, seen_moved}
-use Rattle.frame_pool.proofs.Written.{have_moved}
+use Rattle.frame_pool.proofs.FrameNumbers.{IsPool_numbered, numbered_moved, frame_inside, pool-free, seen_moved}
+use Rattle.frame_pool.proofs.FramesWithBytes.{have_moved}
 use Rattle.frame_pool.proofs.pool.FramePool.release.Goals as goal
 
 numbers_now : (c : goal.After-move_to) → AreNumbered (length c.self.inside.frames) c.move_to.new.lists.linked c.move_to.new.lists.numbers c.move_to.new.count

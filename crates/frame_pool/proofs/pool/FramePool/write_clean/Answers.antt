@@ -2,8 +2,8 @@ use Rattle.std.proofs.Common.{ℕ, ◌<◌, length, ap, ◌∙◌, sym, subst, r
 use Rattle.frame_pool.specs.declared.place.Place.TheVariants.{Clean}
 use Rattle.frame_pool.specs.Numbers.{AreNumbered}
 use Rattle.frame_pool.specs.Pool.{PoolState, with_bytes, with_clean}
-use Rattle.frame_pool.proofs.Numbered.{IsPool_numbered, numbered_moved, frame_inside, pool-clean, seen_written}
-use Rattle.frame_pool.proofs.Written.{count_written, have_moved, have_written, is_written}
+use Rattle.frame_pool.proofs.FrameNumbers.{IsPool_numbered, numbered_moved, frame_inside, pool-clean, seen_written}
+use Rattle.frame_pool.proofs.FramesWithBytes.{count_written, have_moved, have_written, is_written}
 use Rattle.frame_pool.proofs.pool.FramePool.write_clean.Goals as goal
 
 inside : (c : goal.After-move_to) → c.args.frame < length c.self.inside.frames

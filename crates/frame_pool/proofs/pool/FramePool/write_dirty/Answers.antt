@@ -3,8 +3,8 @@ use Rattle.std.specs.List.{All}
 use Rattle.frame_pool.specs.declared.place.Place.TheVariants.{Dirty}
 use Rattle.frame_pool.specs.Numbers.{AreNumbered}
 use Rattle.frame_pool.specs.Pool.{PoolState, DirtyFrame, with_bytes, with_dirty}
-use Rattle.frame_pool.proofs.Numbered.{IsPool_numbered, numbered_moved, frame_inside, last_numbered, pool-dirty, seen_written}
-use Rattle.frame_pool.proofs.Written.{count_written, have_moved, have_written, is_written}
+use Rattle.frame_pool.proofs.FrameNumbers.{IsPool_numbered, numbered_moved, frame_inside, last_numbered, pool-dirty, seen_written}
+use Rattle.frame_pool.proofs.FramesWithBytes.{count_written, have_moved, have_written, is_written}
 use Rattle.frame_pool.proofs.pool.FramePool.write_dirty.Goals as goal
 
 inside : (c : goal.After-move_to) → c.args.frame < length c.self.inside.frames

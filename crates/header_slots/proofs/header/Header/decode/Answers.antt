@@ -22,11 +22,11 @@ returns-in_err-geometry c =
     cc) in
     subst (λ (found : Option Header). MatchOption found (IsBadAt bytes 0) (SpellsAt bytes 0)) (sym c.from_residual-in_err-geometry.ensures) bad
 
-pub returns-in_err-in_front : goal.returns-in_err-in_front
-returns-in_err-in_front c =
+pub returns-in_err-before_last : goal.returns-in_err-before_last
+returns-in_err-before_last c =
     let bytes = c.args.bytes.now in
-    let bad : IsBadAt bytes 0 = no_mode c.in_ok-layout.layout (sym c.u64_at.ensures ∙ c.in_ok-layout.ensures) c.in_err-in_front.ensures in
-    subst (λ (found : Option Header). MatchOption found (IsBadAt bytes 0) (SpellsAt bytes 0)) (sym c.from_residual-in_err-in_front.ensures) bad
+    let bad : IsBadAt bytes 0 = no_mode c.in_ok-layout.layout (sym c.u64_at.ensures ∙ c.in_ok-layout.ensures) c.in_err-before_last.ensures in
+    subst (λ (found : Option Header). MatchOption found (IsBadAt bytes 0) (SpellsAt bytes 0)) (sym c.from_residual-in_err-before_last.ensures) bad
 
 pub returns-then-first_area-areas : goal.returns-then-first_area-areas
 returns-then-first_area-areas c =

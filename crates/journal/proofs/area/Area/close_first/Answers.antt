@@ -1,6 +1,6 @@
 use Rattle.std.proofs.Common.{ℕ, ap, subst, sym, arith}
 use Rattle.journal_format.specs.Area.{AreaState}
-use Rattle.journal.proofs.Torn.{first_written}
+use Rattle.journal.proofs.CrashWhileAppending.{first_written}
 use Rattle.journal.proofs.area.Area.close_first.Goals as goal
 
 pub returns-clause-empty : goal.returns-clause-empty

@@ -4,7 +4,7 @@ use Rattle.latest_writes.specs.declared.range.PutRange.{PutRange}
 use Rattle.latest_writes.specs.Puts.{is_put}
 use Rattle.latest_writes.specs.Ranges.{touch_at}
 use Rattle.latest_writes.specs.Resolved.{ResolvedTouches}
-use Rattle.latest_writes.proofs.Copied.{counted_is, counted_puts}
+use Rattle.latest_writes.proofs.BlocksToCopy.{counted_is, counted_puts}
 use Rattle.latest_writes.proofs.latest_writes.LastTouches.blocks_to_copy.Goals as goal
 
 pub returns : goal.returns

@@ -2,7 +2,7 @@ use Rattle.std.proofs.Common.{subst, sym, arith}
 use Rattle.latest_writes.specs.declared.range.PutRange.{PutRange}
 use Rattle.latest_writes.specs.Puts.{HasNoPut, IsNextPut}
 use Rattle.latest_writes.specs.Resolved.{ResolvedTouches}
-use Rattle.latest_writes.proofs.Found.{searchable, searched, searched_none}
+use Rattle.latest_writes.proofs.NextPut.{searchable, searched, searched_none}
 use Rattle.latest_writes.proofs.latest_writes.LastTouches.next_put.Goals as goal
 
 pub first_after-index-requires : goal.first_after-index-requires

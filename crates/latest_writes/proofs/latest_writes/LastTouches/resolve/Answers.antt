@@ -3,7 +3,7 @@ use Rattle.latest_writes.specs.declared.range.LastRange.{LastRange}
 use Rattle.latest_writes.specs.declared.range.PutRange.{PutRange}
 use Rattle.latest_writes.specs.Puts.{puts_of}
 use Rattle.latest_writes.specs.Ranges.{AreLastTouches}
-use Rattle.latest_writes.proofs.Copied.{puts_within}
+use Rattle.latest_writes.proofs.BlocksToCopy.{puts_within}
 use Rattle.latest_writes.specs.laws.Said.{AreRanges-before}
 use Rattle.latest_writes.proofs.latest_writes.LastTouches.resolve.Goals as goal
 

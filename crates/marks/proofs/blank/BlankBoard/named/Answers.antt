@@ -2,7 +2,7 @@ use Rattle.std.proofs.Common.{◌∙◌, arith, ap}
 use Rattle.atomic_table.specs.Table.{Me}
 use Rattle.marks.specs.declared.said.Said.{Said}
 use Rattle.marks.specs.declared.view.View.{View}
-use Rattle.marks.proofs.Moves.{gives_keeper, gives_order}
+use Rattle.marks.proofs.StepsKeepRule.{gives_keeper, gives_order}
 use Rattle.marks.proofs.blank.BlankBoard.named.Goals as goal
 
 pub split_seat-order-requires : goal.split_seat-order-requires

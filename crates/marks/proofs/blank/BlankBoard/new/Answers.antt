@@ -1,4 +1,4 @@
-use Rattle.marks.proofs.Fitting.{opens}
+use Rattle.marks.proofs.SeatsFitBoard.{opens}
 use Rattle.marks.proofs.blank.BlankBoard.new.Goals as goal
 
 pub of_words-requires : goal.of_words-requires

@@ -1,5 +1,5 @@
 use Rattle.std.proofs.Common.{sym, ◌∙◌, arith}
-use Rattle.marks.proofs.Moves.{awaits}
+use Rattle.marks.proofs.StepsKeepRule.{awaits}
 use Rattle.marks.proofs.board.Board.await_all.Goals as goal
 
 pub load-requires : goal.load-requires

@@ -3,7 +3,7 @@ use Rattle.export_model.specs.OneLog.{IsOneLog}
 use Rattle.marks.specs.declared.view.View.{View}
 use Rattle.marks.specs.Seats.{roster_of}
 use Rattle.marks.specs.inner.Steps.{taking_keeper, taking_order}
-use Rattle.marks.proofs.Moves.{one_log}
+use Rattle.marks.proofs.StepsKeepRule.{one_log}
 use Rattle.marks.proofs.board.Board.close.Goals as goal
 
 pub free-requires : goal.free-requires

@@ -1,5 +1,5 @@
 use Rattle.std.proofs.Common.{sym, ◌∙◌, arith}
-use Rattle.marks.proofs.Moves.{tells}
+use Rattle.marks.proofs.StepsKeepRule.{tells}
 use Rattle.marks.proofs.board.Board.cut.Goals as goal
 
 pub split_seat-requires : goal.split_seat-requires

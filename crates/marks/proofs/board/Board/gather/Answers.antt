@@ -3,7 +3,7 @@ use Rattle.export_model.specs.OneLog.{Call, RosterState}
 use Rattle.marks.specs.Seats.{roster_of, calls_of}
 use Rattle.marks.specs.declared.view.View.{View}
 use Rattle.marks.specs.inner.Steps.{gathering}
-use Rattle.marks.proofs.Logging.{calls_more}
+use Rattle.marks.proofs.ClientsFitLog.{calls_more}
 use Rattle.marks.proofs.board.Board.gather.Goals as goal
 
 pub returns : goal.returns

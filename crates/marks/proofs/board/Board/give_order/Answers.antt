@@ -1,5 +1,5 @@
 use Rattle.std.proofs.Common.{sym, ◌∙◌, arith}
-use Rattle.marks.proofs.Moves.{gives_order}
+use Rattle.marks.proofs.StepsKeepRule.{gives_order}
 use Rattle.marks.proofs.board.Board.give_order.Goals as goal
 
 pub split_seat-requires : goal.split_seat-requires

@@ -1,5 +1,5 @@
 use Rattle.std.proofs.Common.{sym, ◌∙◌, arith}
-use Rattle.marks.proofs.Moves.{hears}
+use Rattle.marks.proofs.StepsKeepRule.{hears}
 use Rattle.marks.proofs.board.Board.hear.Goals as goal
 
 pub join_seat-requires : goal.join_seat-requires

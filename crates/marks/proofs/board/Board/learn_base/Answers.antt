@@ -1,5 +1,5 @@
 use Rattle.std.proofs.Common.{sym, ◌∙◌, arith}
-use Rattle.marks.proofs.Moves.{learns_base}
+use Rattle.marks.proofs.StepsKeepRule.{learns_base}
 use Rattle.marks.proofs.board.Board.learn_base.Goals as goal
 
 pub join_seat-requires : goal.join_seat-requires

@@ -1,5 +1,5 @@
 use Rattle.std.proofs.Common.{sym, ◌∙◌, arith}
-use Rattle.marks.proofs.Moves.{raises_durable}
+use Rattle.marks.proofs.StepsKeepRule.{raises_durable}
 use Rattle.marks.proofs.board.Board.lift.Goals as goal
 
 pub fetch_max-requires : goal.fetch_max-requires

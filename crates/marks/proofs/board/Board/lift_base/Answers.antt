@@ -1,5 +1,5 @@
 use Rattle.std.proofs.Common.{sym, ◌∙◌, arith}
-use Rattle.marks.proofs.Moves.{raises_base}
+use Rattle.marks.proofs.StepsKeepRule.{raises_base}
 use Rattle.marks.proofs.board.Board.lift_base.Goals as goal
 
 pub compare_exchange-requires : goal.compare_exchange-requires

@@ -1,5 +1,5 @@
 use Rattle.std.proofs.Common.{sym, ◌∙◌, arith}
-use Rattle.marks.proofs.Moves.{makes_client}
+use Rattle.marks.proofs.StepsKeepRule.{makes_client}
 use Rattle.marks.proofs.board.Board.make.Goals as goal
 
 pub split_seat-requires : goal.split_seat-requires

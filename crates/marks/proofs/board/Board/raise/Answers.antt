@@ -1,5 +1,5 @@
 use Rattle.std.proofs.Common.{sym, ◌∙◌, arith}
-use Rattle.marks.proofs.Moves.{raises_accepted}
+use Rattle.marks.proofs.StepsKeepRule.{raises_accepted}
 use Rattle.marks.proofs.board.Board.raise.Goals as goal
 
 pub compare_exchange_with-requires : goal.compare_exchange_with-requires

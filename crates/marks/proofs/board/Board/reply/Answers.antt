@@ -1,5 +1,5 @@
 use Rattle.std.proofs.Common.{sym, ◌∙◌, arith}
-use Rattle.marks.proofs.Moves.{replies}
+use Rattle.marks.proofs.StepsKeepRule.{replies}
 use Rattle.marks.proofs.board.Board.reply.Goals as goal
 
 pub compare_exchange_with-requires : goal.compare_exchange_with-requires

@@ -1,5 +1,5 @@
 use Rattle.std.proofs.Common.{sym, ◌∙◌, arith}
-use Rattle.marks.proofs.Moves.{looks_accepted}
+use Rattle.marks.proofs.StepsKeepRule.{looks_accepted}
 use Rattle.marks.proofs.board.Board.see_accepted.Goals as goal
 
 pub load-requires : goal.load-requires

@@ -1,5 +1,5 @@
 use Rattle.std.proofs.Common.{sym, ◌∙◌, arith}
-use Rattle.marks.proofs.Moves.{looks_durable}
+use Rattle.marks.proofs.StepsKeepRule.{looks_durable}
 use Rattle.marks.proofs.board.Board.see_durable.Goals as goal
 
 pub load-requires : goal.load-requires

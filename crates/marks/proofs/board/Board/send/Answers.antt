@@ -1,5 +1,5 @@
 use Rattle.std.proofs.Common.{sym, ◌∙◌, arith}
-use Rattle.marks.proofs.Moves.{sends}
+use Rattle.marks.proofs.StepsKeepRule.{sends}
 use Rattle.marks.proofs.board.Board.send.Goals as goal
 
 pub compare_exchange_with-requires : goal.compare_exchange_with-requires

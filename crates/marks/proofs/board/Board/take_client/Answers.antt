@@ -1,5 +1,5 @@
 use Rattle.std.proofs.Common.{sym, ◌∙◌, arith}
-use Rattle.marks.proofs.Moves.{gathers}
+use Rattle.marks.proofs.StepsKeepRule.{gathers}
 use Rattle.marks.proofs.board.Board.take_client.Goals as goal
 
 pub join_seat-requires : goal.join_seat-requires

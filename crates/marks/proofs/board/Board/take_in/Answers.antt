@@ -1,5 +1,5 @@
 use Rattle.std.proofs.Common.{sym, ◌∙◌, arith}
-use Rattle.marks.proofs.Moves.{takes_in}
+use Rattle.marks.proofs.StepsKeepRule.{takes_in}
 use Rattle.marks.proofs.board.Board.take_in.Goals as goal
 
 pub load-requires : goal.load-requires

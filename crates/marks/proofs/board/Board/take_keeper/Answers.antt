@@ -1,5 +1,5 @@
 use Rattle.std.proofs.Common.{sym, ◌∙◌, arith}
-use Rattle.marks.proofs.Moves.{takes_keeper}
+use Rattle.marks.proofs.StepsKeepRule.{takes_keeper}
 use Rattle.marks.proofs.board.Board.take_keeper.Goals as goal
 
 pub join_seat-requires : goal.join_seat-requires

@@ -1,5 +1,5 @@
 use Rattle.std.proofs.Common.{sym, ◌∙◌, arith}
-use Rattle.marks.proofs.Moves.{takes_order}
+use Rattle.marks.proofs.StepsKeepRule.{takes_order}
 use Rattle.marks.proofs.board.Board.take_order.Goals as goal
 
 pub join_seat-requires : goal.join_seat-requires

@@ -27,7 +27,7 @@ returns-in-Err-clause-world g c = λ world trusted of.
       on.0,
       settles_on disk.state disk.faults disk.honest c.leads_law.ensures world here.0 on.0 trusted mid.order new.order mid.keeper new.keeper mid.connections new.connections c.args.self.now.keeper.disk
           c.copy_some.ensures.honest.0 here.1 on.1,
-      all_copied world here.0 on.0 c.in-Err.event c.turned-end.result here.1.follows.steps here.2 here.1.follows.leads.run on.2 c.in-Err.ensures.refused c.turned-end.ensures,
+      all_copied world here.0 on.0 c.in-Err.event c.goes_on_after-end.result here.1.follows.steps here.2 here.1.follows.leads.run on.2 c.in-Err.ensures.refused c.goes_on_after-end.ensures,
     )
 
 pub loop-event-preserved : goal.loop-event-preserved

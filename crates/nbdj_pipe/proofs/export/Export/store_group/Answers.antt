@@ -23,8 +23,8 @@ returns-clause-world g c = λ world trusted of.
           c.store_step-published.ensures.honest.0
           (settles_on disk.state disk.faults disk.honest law world sealed appended trusted one.order two.order one.keeper two.keeper one.connections two.connections c.args.self.now.keeper.disk
           c.store_step-appended.ensures.honest.0 first.1 second.1) third.1,
-      shown world within of.of_keeper.takes pending.0 pending.1 first.0 second.0 c.store_step-sealed.result c.store_step-appended.result c.store_step-published.result c.stored-fits.result
-          first.2 second.2 third.2 c.stored-fits.ensures.events,
+      shown world within of.of_keeper.takes pending.0 pending.1 first.0 second.0 c.store_step-sealed.result c.store_step-appended.result c.store_step-published.result c.fits_area-fits.result
+          first.2 second.2 third.2 c.fits_area-fits.ensures.events,
     )
 
 pub returns-clause-honest : goal.returns-clause-honest

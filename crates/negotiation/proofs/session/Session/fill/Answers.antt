@@ -4,7 +4,7 @@ use Rattle.std.specs.Prelude.{IfOk}
 use Rattle.negotiation.specs.Session.{Fills, SessionState, standing_of}
 use Rattle.negotiation.specs.declared.stage.Stage.{Stage}
 use Rattle.negotiation.specs.laws.Dialogs.{session_at}
-use Rattle.negotiation.proofs.Filling.{fills_session}
+use Rattle.negotiation.proofs.ReadIntoRoom.{fills_session}
 use Rattle.negotiation.proofs.session.Session.fill.Goals as goal
 
 pub returns-clause-ok : goal.returns-clause-ok

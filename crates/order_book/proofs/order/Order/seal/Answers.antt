@@ -6,7 +6,7 @@ use Rattle.order_book.specs.Order.{IsInHand, IsOrder, OrderState, Seals}
 use Rattle.order_book.specs.Pending.{Waiting}
 use Rattle.order_book.specs.State.{state_of}
 use Rattle.order_book.specs.inner.Pending.{IsLongest}
-use Rattle.order_book.proofs.Sealed.{due_empty, in_hand, order_sealed, seals, some_there}
+use Rattle.order_book.proofs.GroupThatWasSealed.{due_empty, in_hand, order_sealed, seals, some_there}
 use Rattle.order_book.proofs.order.Order.seal.Goals as goal
 
 pub invariant_of-self : goal.invariant_of-self
@@ -36,14 +36,14 @@ invariant_of-self-2 g c =
 pub returns-clause-in_hand : goal.returns-clause-in_hand
 returns-clause-in_hand g c =
     subst (λ (group : Numbered). let o : OrderState = record (state_of c.self.inside) { sealed = c.self.inside.sealed + c.longest-count.result; in_hand = c.longest-count.result; pending = c.take.new.self.commands } in IsInHand o group)
-    (sym c.of.ensures)
+    (sym c.new.ensures)
     (in_hand (state_of c.self.inside) c.longest-count.result _ c.take.new.self.spare _ _ c.take.new.self.commands c.self.invariant (subst (λ (limit : ℕ). IsLongest limit c.self.inside.pending.commands c.longest-count.result) (c.body_limit.ensures ∙ ap (λ (o : OrderState). body_limit o.area) (sym c.self.view_is)) c.longest-count.ensures.longest) c.in-Ok.ensures.rest c.in-Ok.commands.items c.in-Ok.ensures.taken)
 
 pub returns-clause-group : goal.returns-clause-group
 returns-clause-group g c =
     let new : OrderState = record (state_of c.self.inside) { sealed = c.self.inside.sealed + c.longest-count.result; in_hand = c.longest-count.result; pending = c.take.new.self.commands } in
-    subst (λ (o : OrderState). Seals o new c.of.result) c.self.view_is
-    (subst (λ (group : Numbered). Seals (state_of c.self.inside) new group) (sym c.of.ensures)
+    subst (λ (o : OrderState). Seals o new c.new.result) c.self.view_is
+    (subst (λ (group : Numbered). Seals (state_of c.self.inside) new group) (sym c.new.ensures)
     (seals (state_of c.self.inside) c.longest-count.result _ c.take.new.self.spare _ _ c.take.new.self.commands c.self.invariant (subst (λ (limit : ℕ). IsLongest limit c.self.inside.pending.commands c.longest-count.result) (c.body_limit.ensures ∙ ap (λ (o : OrderState). body_limit o.area) (sym c.self.view_is)) c.longest-count.ensures.longest) c.in-Ok.ensures.rest c.in-Ok.commands.items c.in-Ok.ensures.taken (c.longest-count.ensures.first (some_there c.self.inside.pending.commands (λ none. true≢false (sym (c.is_empty.ensures.1 none) ∙ c.if-is_empty.false))))))
 
 pub longest-count-requires-clause-small : goal.longest-count-requires-clause-small

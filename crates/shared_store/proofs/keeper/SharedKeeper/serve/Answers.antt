@@ -3,8 +3,8 @@ use Rattle.shared_store.specs.Keepers.{SeatedState}
 use Rattle.shared_store.specs.Parts.{StandsWithin}
 use Rattle.std.proofs.Common.{refl, subst}
 use Rattle.shared_store.proofs.StoredBeginsHistory.{passing_by}
-use Rattle.shared_store.proofs.Serving.{with_leaves}
-use Rattle.shared_store.proofs.Serving.{with_keeper}
+use Rattle.shared_store.proofs.ServingKeepsHistory.{with_leaves}
+use Rattle.shared_store.proofs.ServingKeepsHistory.{with_keeper}
 use Rattle.shared_store.proofs.keeper.SharedKeeper.serve.Goals as goal
 
 pub invariant_of-self : goal.invariant_of-self

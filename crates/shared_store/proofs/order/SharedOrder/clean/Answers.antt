@@ -3,7 +3,7 @@ use Rattle.device_image.specs.Keeper.{KeeperState}
 use Rattle.shared_store.specs.Keepers.{SeatedState}
 use Rattle.shared_store.proofs.OrderKnowsHistory.{cleaned_by}
 use Rattle.shared_store.specs.Orders.{AreRight}
-use Rattle.shared_store.proofs.Resting.{kept}
+use Rattle.shared_store.proofs.UnlockedReadPremises.{kept}
 use Rattle.shared_store.proofs.order.SharedOrder.clean.Goals as goal
 
 pub invariant_of-self : goal.invariant_of-self

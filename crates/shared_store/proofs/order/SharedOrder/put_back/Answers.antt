@@ -1,6 +1,6 @@
 use Rattle.shared_store.proofs.OrderKnowsHistory.{put_back}
 use Rattle.shared_store.specs.Orders.{AreRight}
-use Rattle.shared_store.proofs.Resting.{kept}
+use Rattle.shared_store.proofs.UnlockedReadPremises.{kept}
 use Rattle.shared_store.proofs.order.SharedOrder.put_back.Goals as goal
 
 pub invariant_of-self : goal.invariant_of-self

@@ -4,12 +4,12 @@ use Rattle.export_model.specs.Verdict.{verdict}
 use Rattle.image_model.specs.Edit.{becomes}
 use Rattle.image_model.specs.Image.{apply_all}
 use Rattle.order_book.specs.Order.{OrderState}
-use Rattle.shared_store.proofs.Answering.{if_accepts, if_tells}
-use Rattle.shared_store.proofs.Logging.{has_sent}
-use Rattle.shared_store.proofs.Serving.{if_here}
-use Rattle.shared_store.proofs.Noting.{noted_here}
+use Rattle.shared_store.proofs.AnswersShowImage.{if_accepts, if_tells}
+use Rattle.shared_store.proofs.LogAsksOrder.{has_sent}
+use Rattle.shared_store.proofs.ServingKeepsHistory.{if_here}
+use Rattle.shared_store.proofs.BaseStaysNoted.{noted_here}
 use Rattle.shared_store.specs.Orders.{AreRight, Trusting}
-use Rattle.shared_store.proofs.Resting.{kept}
+use Rattle.shared_store.proofs.UnlockedReadPremises.{kept}
 use Rattle.shared_store.specs.laws.Trust.{trusting}
 use Rattle.shared_store.proofs.order.SharedOrder.serve.Goals as goal
 

@@ -1,8 +1,8 @@
 use Rattle.std.proofs.Common.{ap, ◌∙◌, subst, sym}
 use Rattle.order_book.specs.Order.{OrderState}
-use Rattle.shared_store.proofs.Answering.{if_over_tells}
-use Rattle.shared_store.proofs.Serving.{if_over, read_for}
-use Rattle.shared_store.proofs.Noting.{noted_over}
+use Rattle.shared_store.proofs.AnswersShowImage.{if_over_tells}
+use Rattle.shared_store.proofs.ServingKeepsHistory.{if_over, read_for}
+use Rattle.shared_store.proofs.BaseStaysNoted.{noted_over}
 use Rattle.shared_store.proofs.order.SharedOrder.serve_over.Goals as goal
 
 pub invariant_of-self : goal.invariant_of-self

@@ -7,12 +7,12 @@ use Rattle.order_book.specs.Order.{OrderState}
 use Rattle.request_core.specs.Outcomes.{IsServedBy}
 use Rattle.request_core.specs.Serving.{HasSent}
 use Rattle.shared_store.specs.laws.Trust.{all_right}
-use Rattle.shared_store.proofs.Answering.{known_by, with_keeper, with_over}
-use Rattle.shared_store.proofs.Logging.{has_sent}
-use Rattle.shared_store.proofs.Serving.{with_order}
-use Rattle.shared_store.proofs.Noting.{noted_with}
+use Rattle.shared_store.proofs.AnswersShowImage.{known_by, with_keeper, with_over}
+use Rattle.shared_store.proofs.LogAsksOrder.{has_sent}
+use Rattle.shared_store.proofs.ServingKeepsHistory.{with_order}
+use Rattle.shared_store.proofs.BaseStaysNoted.{noted_with}
 use Rattle.shared_store.specs.Orders.{AreRight, Trusting}
-use Rattle.shared_store.proofs.Resting.{kept, told_by}
+use Rattle.shared_store.proofs.UnlockedReadPremises.{kept, told_by}
 use Rattle.shared_store.proofs.order.SharedOrder.serve_with.Goals as goal
 
 pub invariant_of-self : goal.invariant_of-self

@@ -173,6 +173,6 @@ all_wait : (world : World) → IsReached world → AllWait world
 all_wait world (Fresh setting) = wait_fresh setting
 all_wait world (After {world = before} step failure reached) = wait_step before (all_wait before reached) step failure
 
--- who waits in a world that schedules lead to waits for a number of its order
+-- a client that waits, in a world that schedules lead to, waits for a number of its order
 pub waiting_reached : (world : World) → IsReached world → (connection number : ℕ) → world.connections connection ≡ Waiting number → number ≤ last_number world
 waiting_reached world reached connection number is = subst (WaitsWithin (last_number world)) is (all_wait world reached connection)

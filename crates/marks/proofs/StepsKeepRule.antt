@@ -26,8 +26,8 @@ use Rattle.marks.specs.Rule.{AreGathered, Fits, IsBoard, Room, World}
 use Rattle.marks.specs.Seats.{calls_of, roster_of}
 use Rattle.marks.specs.inner.Steps.{Awaits, LooksAccepted, LooksDurable, TakesIn, RaisesAccepted, RaisesDurable, RaisesBase, Replies, Sends, gathering, keeper_only, learning_base, hearing, made_by, making, nothing, order_only, own_after, taking_in, taking_keeper, taking_order, telling, without_keeper, without_order}
 use Rattle.marks.specs.laws.Beginnings.{longer_of, prefix_length, prefix_none, prefix_of_append, prefix_self, prefix_shorter, prefix_take, prefix_trans}
-use Rattle.marks.proofs.Fitting.{Grows, Log, Table, at_end, join_to, looked, moved, split_to, there_still}
-use Rattle.marks.proofs.Logging.{SameLog, log_accepted, log_flushed, log_gathered, log_join, log_made, log_replied, log_same, log_sent, log_split, log_stored}
+use Rattle.marks.proofs.SeatsFitBoard.{Grows, Log, Table, at_end, join_to, looked, moved, split_to, there_still}
+use Rattle.marks.proofs.ClientsFitLog.{SameLog, log_accepted, log_flushed, log_gathered, log_join, log_made, log_replied, log_same, log_sent, log_split, log_stored}
 
 same_log : (v : View) → SameLog v v
 same_log v = record { makes = refl; made = refl; gathered = refl; client = refl }

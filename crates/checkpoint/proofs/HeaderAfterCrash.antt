@@ -11,7 +11,7 @@ use Rattle.image_model.specs.declared.geometry.Geometry.{Geometry}
 use Rattle.image_model.specs.declared.side.Side.{Side}
 use Rattle.device_image.specs.Keeper.{KeeperState}
 use Rattle.device_image.specs.Keeps.{Keeps}
-use Rattle.device_image.specs.inner.Copied.{LeavesTurn}
+use Rattle.device_image.specs.inner.Copied.{LeavesAreaStart}
 use Rattle.device_image.specs.laws.Frame.{header_kept}
 use Rattle.device_image.specs.laws.Kept.{low_synced}
 use Rattle.checkpoint.specs.Headers.{HasHeader, HasHeaderOrNext, HeadersFollow}
@@ -65,7 +65,7 @@ module _ {D : Type 0} (keeper : KeeperState D) (state : State) (image : Image) (
 
   -- and while another area comes into use
   pub header_turns : {extent : ℕ} → IsSound extent state → (header : Header) → header.generation ≡ keeper.memory.header.generation + 1 → header.geometry ≡ keeper.memory.header.geometry → (from : ℕ)
-      → (content : List ℕ) → LeavesTurn state extent from keeper.memory.header keeper.memory.slot header content → HasHeaderOrNext keeper.geometry keeper.generation content
+      → (content : List ℕ) → LeavesAreaStart state extent from keeper.memory.header keeper.memory.slot header content → HasHeaderOrNext keeper.geometry keeper.generation content
   header_turns sound header generation sizes from content left =
       either_in_force sound header generation sizes content left.size keeper.memory.slot (other_of keeper.memory.slot) (⊎_elim (λ old. inl old) (λ new. inr new.1) left.either)
 

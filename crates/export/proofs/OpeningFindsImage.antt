@@ -18,7 +18,7 @@ found keeper state image holds =
     let keeps = holds.keeps in
     let stands = keeps.stands in
     let base : Image = stored_image state.seen stands.header.geometry stands.states in
-    let before : all_changes keeps.areas.front ≡ [] = sym (joined_lists keeps.areas.front) ∙ ap joined holds.in_front in
+    let before : all_changes keeps.areas.front ≡ [] = sym (joined_lists keeps.areas.front) ∙ ap joined holds.before_last in
     let none : all_changes stands.lists ≡ [] =
     ap all_changes keeps.areas.are ∙ (all_changes-append keeps.areas.front (keeps.areas.groups ∷ [])
     ∙ (ap (λ (l : List Change). l ++ (changes_of keeps.areas.groups ++ [])) before ∙ ap (λ (l : List Change). l ++ []) holds.in_last)) in

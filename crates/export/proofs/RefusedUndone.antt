@@ -13,7 +13,7 @@ use Rattle.request_core.specs.declared.serving.Served.{Served}
 use Rattle.export_model.specs.declared.action.Action.{Action}
 use Rattle.export_model.specs.declared.action.Action.TheVariants.{Serve}
 use Rattle.export_model.specs.declared.step.Mode.{Mode}
-use Rattle.export.proofs.Submits.{refused_undone, unanswered}
+use Rattle.export.proofs.PassAfterServing.{refused_undone, unanswered}
 use Rattle.export.specs.Submits.{IsJudged}
 use Rattle.export.specs.inner.Submits.{FitsServed, IsServedFor, IsUnserved}
 use Rattle.shared_store.specs.Answers.{ServesImage}

@@ -40,8 +40,8 @@ use Rattle.export_model.specs.declared.action.Action.TheVariants.{End, Serve}
 use Rattle.export_model.specs.declared.connection.Connection.{Connection}
 use Rattle.export_model.specs.declared.connection.Connection.TheVariants.{Requested, Waiting}
 use Rattle.export_model.specs.declared.step.Mode.{Mode}
-use Rattle.export.proofs.Submits.{no_less, refused_undone, shown_undone, write_flushes_none}
-use Rattle.export.proofs.Unserved.{unserved_fits, unserved_tells}
+use Rattle.export.proofs.PassAfterServing.{no_less, refused_undone, shown_undone, write_flushes_none}
+use Rattle.export.proofs.RefusedUndone.{unserved_fits, unserved_tells}
 use Rattle.export.specs.inner.Submits.{FitsServed, IsClientFor, IsShownFor, IsUnserved, IsWaitedFor, serves_image}
 
 -- What serving a request comes to: an answer other than Ok, by which the order has no command more; a FLUSH or a write command that waits

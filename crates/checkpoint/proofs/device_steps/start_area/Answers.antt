@@ -5,8 +5,8 @@ use Rattle.disk_model.specs.laws.Moments.{goes_on, weakens}
 use Rattle.header_slots.specs.Change.{IsInPlace, LeavesEither}
 use Rattle.header_slots.specs.Slots.{HoldsHeader}
 use Rattle.image_model.specs.Side.{other_of}
-use Rattle.checkpoint.proofs.Beginning.{begun_at, change_left, closing_left, held_still, slots_synced}
-use Rattle.checkpoint.proofs.device_steps.begin_turn.Goals as goal
+use Rattle.checkpoint.proofs.AreaComesIntoUse.{begun_at, change_left, closing_left, held_still, slots_synced}
+use Rattle.checkpoint.proofs.device_steps.start_area.Goals as goal
 
 pub returns-in_err-empty_area-clause-any_moment : goal.returns-in_err-empty_area-clause-any_moment
 returns-in_err-empty_area-clause-any_moment g c honest calm synced behind current held next =

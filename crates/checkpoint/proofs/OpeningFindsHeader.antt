@@ -15,7 +15,7 @@ use Rattle.journal_format.specs.laws.OneList.{one_list}
 use Rattle.regions.specs.Layout.{area_at, areas_in, behind}
 use Rattle.device_image.specs.Keeper.{KeeperState, One, PlanState, earlier_of, phase_in, phase_of, turned_of}
 use Rattle.device_image.specs.Keeps.{AreHeld, Keeps, behind_lists}
-use Rattle.device_image.specs.Stands.{StandsFor, all_changes, area_of, areas_in_front, next_number}
+use Rattle.device_image.specs.Stands.{StandsFor, all_changes, area_of, areas_before_last, next_number}
 use Rattle.device_image.specs.laws.CheckpointBounds.{fronts_many}
 use Rattle.device_image.specs.laws.Frame.{moved_list}
 use Rattle.device_image.specs.laws.Sole.{same_header}
@@ -23,7 +23,7 @@ use Rattle.checkpoint.specs.Headers.{HasHeader, HeadersFollow, HeadersFollowUpTo
 use Rattle.checkpoint.specs.Opening.{AreHeadersInTurn, HasLastGeneration, IsAtRest, IsFixed, IsFixedOrNot, IsOpeningRefused, IsRefused, LacksGenerations, StandsAs, disk_after, headers_for, headers_for_last, headers_from}
 use Rattle.checkpoint.specs.inner.Opening.{IsReadFixed, IsReadFixedOrNot}
 use Rattle.checkpoint.specs.inner.Recovery.{IsRecoveryFault, headers_at}
-use Rattle.checkpoint.proofs.HeaderLeft.{follows_after}
+use Rattle.checkpoint.proofs.HeaderAfterCrash.{follows_after}
 use Rattle.checkpoint.specs.declared.fault.KeeperFault.{KeeperFault}
 use Rattle.checkpoint.specs.declared.fault.KeeperFault.TheVariants.{NoMemory, DeviceFault, BadMap, NoHeader, BadHeader, NumbersFull, AreaFull, OutOfOrder, DamagedGroup, NotNow, Failed, AreaSmall}
 
@@ -82,7 +82,7 @@ module _ {D : Type 0} (keeper : KeeperState D) (state : State) (image : Image) (
   headers_most turned =
       let header = keeps.stands.header in
       let in_turn : length keeper.turned ≡ length keeper.memory.plans = ap length turned ∙ turned_many keeper.memory.plans in
-      let fronts = front_many (areas_in_front header) header.geometry (next_number header.base) keeps.areas.front keeper.memory.plans state keeps.areas.earlier_held in
+      let fronts = front_many (areas_before_last header) header.geometry (next_number header.base) keeps.areas.front keeper.memory.plans state keeps.areas.earlier_held in
       let last = headers_last keeps.areas.groups keeper.used keeps.taken in
       let all : headers_for keeps.stands.lists ≡ length keeps.areas.front + headers_for_last keeps.areas.groups = ap headers_for keeps.areas.are ∙ headers_all keeps.areas.front keeps.areas.groups in
       omega (arith, in_turn, fronts, last, all)
@@ -93,8 +93,8 @@ module _ {D : Type 0} (keeper : KeeperState D) (state : State) (image : Image) (
   front_empty : keeper.memory.plans ≡ [] → keeps.areas.front ≡ []
   front_empty none =
       let header = keeps.stands.header in
-      no_front (areas_in_front header) header.geometry (next_number header.base) keeps.areas.front state
-      (subst (λ (list : List AreaState). AreHeld (areas_in_front header) header.geometry (next_number header.base) keeps.areas.front list state) (ap earlier_of none) keeps.areas.earlier_held)
+      no_front (areas_before_last header) header.geometry (next_number header.base) keeps.areas.front state
+      (subst (λ (list : List AreaState). AreHeld (areas_before_last header) header.geometry (next_number header.base) keeps.areas.front list state) (ap earlier_of none) keeps.areas.earlier_held)
 
   -- where the journal is empty all is at the base
   pub empty_base : keeper.phase ≡ One → keeper.used ≡ 0 → keeper.base ≡ number
@@ -110,9 +110,9 @@ module _ {D : Type 0} (keeper : KeeperState D) (state : State) (image : Image) (
   rests rest =
       let header = keeps.stands.header in
       let is : rest.header ≡ header = same_header state.seen (length state.seen) rest.header header rest.slot keeps.stands.slot rest.in_force keeps.stands.in_force in
-      let one : header.in_front ≡ 0 = ap (λ (h : Header). h.in_front) (sym is) ∙ rest.one in
-      let many = fronts_many (areas_in header.geometry) header.in_front header.first_area header.geometry (next_number header.base) keeps.areas.front keeper.memory.plans state keeps.areas.earlier_held in
-      let none = alone keeper.memory.plans header.in_front many one in
+      let one : header.before_last ≡ 0 = ap (λ (h : Header). h.before_last) (sym is) ∙ rest.one in
+      let many = fronts_many (areas_in header.geometry) header.before_last header.first_area header.geometry (next_number header.base) keeps.areas.front keeper.memory.plans state keeps.areas.earlier_held in
+      let none = alone keeper.memory.plans header.before_last many one in
       let front = front_empty none in
       let area = keeper.memory.area in
       let from : area.from ≡ area_at header.geometry header.first_area = keeps.areas.placed.from ∙ ap (λ (n : ℕ). area_at header.geometry (behind (areas_in header.geometry) n header.first_area)) one in
@@ -133,16 +133,16 @@ module _ {D : Type 0} (keeper : KeeperState D) (state : State) (image : Image) (
       let plans = no_plan keeper.memory.plans (sym keeps.phase ∙ one) in
       let front = front_empty plans in
       let groups = no_groups keeps.areas.groups (sym keeps.taken ∙ none) in
-      let many = fronts_many (areas_in header.geometry) header.in_front header.first_area header.geometry (next_number header.base) keeps.areas.front keeper.memory.plans state keeps.areas.earlier_held in
-      let in_front : header.in_front ≡ 0 = many ∙ ap length plans in
-      let from = keeps.areas.placed.from ∙ ap (λ (n : ℕ). area_at header.geometry (behind (areas_in header.geometry) n header.first_area)) in_front in
+      let many = fronts_many (areas_in header.geometry) header.before_last header.first_area header.geometry (next_number header.base) keeps.areas.front keeper.memory.plans state keeps.areas.earlier_held in
+      let before_last : header.before_last ≡ 0 = many ∙ ap length plans in
+      let from = keeps.areas.placed.from ∙ ap (λ (n : ℕ). area_at header.geometry (behind (areas_in header.geometry) n header.first_area)) before_last in
       let list = subst (λ (lists : List (List StoredGroup)). IsList keeper.memory.area (behind_lists (next_number header.base) lists) [] state.seen) front
       (subst (λ (g : List StoredGroup). IsList keeper.memory.area (behind_lists (next_number header.base) keeps.areas.front) g state.seen) groups keeps.areas.held.list) in
       record {
         header = header;
         slot = keeps.stands.slot;
         in_force = keeps.stands.in_force;
-        one = in_front;
+        one = before_last;
         list = moved_list keeper.memory.area (area_of header.geometry header.first_area) (next_number header.base) [] state.seen from keeps.areas.placed.bytes keeps.areas.placed.blocks list;
       }
 

@@ -118,7 +118,7 @@ module _ (state : State) (header : Header) (slot : Side) (states : List Kind) (p
   pub is_report : (commands data_blocks zero_blocks hole_blocks : ℕ) (after : List Kind) → length states ≡ header.geometry.blocks → AreStatesBehind plans area states after
       → commands ≡ (area.next + 18446744073709551615) % 18446744073709551616
       → data_blocks ≡ count_by (is_state Data) after → zero_blocks ≡ count_by (is_state Zero) after → hole_blocks ≡ count_by (is_state Hole) after
-      → IsReport (record { layout = header.geometry.layout; blocks = header.geometry.blocks; in_front = header.in_front; base = header.base; commands = commands; data_blocks = data_blocks; zero_blocks = zero_blocks; hole_blocks = hole_blocks }) state.seen
+      → IsReport (record { layout = header.geometry.layout; blocks = header.geometry.blocks; before_last = header.before_last; base = header.base; commands = commands; data_blocks = data_blocks; zero_blocks = zero_blocks; hole_blocks = hole_blocks }) state.seen
   unfolding base
   is_report commands data_blocks zero_blocks hole_blocks after count behind counted data_is zero_is hole_is =
       let image = opened_image state header slot states plans area opened fits in
@@ -130,7 +130,7 @@ module _ (state : State) (header : Header) (slot : Side) (states : List Kind) (p
         stands = opened_stands state header slot states plans area opened fits commands (last_number state header slot states plans area opened fits commands counted);
         blocks = sym sized;
         layout = refl;
-        in_front = refl;
+        before_last = refl;
         base = refl;
         data_blocks = data_is ∙ blocks_counted Data image after long each;
         zero_blocks = zero_is ∙ blocks_counted Zero image after long each;

@@ -34,7 +34,7 @@ use Rattle.shared_store.specs.Orders.{AreRight, IsOrderOfHistory, IsRight, Keeps
 use Rattle.shared_store.specs.Parts.{StandsWithin}
 use Rattle.shared_store.proofs.StoredBeginsHistory.{leaves_read, leaves_still, read_by, unread_by}
 use Rattle.shared_store.proofs.OrderKnowsHistory.{cached, clean_at, more, noted_clean, stopped}
-use Rattle.shared_store.proofs.Resting.{weaker}
+use Rattle.shared_store.proofs.UnlockedReadPremises.{weaker}
 
 module _ (opening : ℕ) (image : Image) (trusted : Type 0) (request : Message) (geometry : Geometry) (kept : Mode) (old new : OrderState) (is : IsOrderOfHistory opening image trusted old)
     (result : Served) (blocks : geometry.blocks ≡ image.blocks) (sizes : length new.cache.states ≡ length old.cache.states) where

@@ -73,15 +73,15 @@ module _ (header : Header) (n : ℕ) (plans : List PlanState) (before after : St
       }
 
   -- and it is damaged
-  pub area_damaged : n < suc header.in_front → (content : List ℕ) → after.seen ≡ content → IsDamaged (area_of header.geometry index) next content → IsAreaDamaged content header
+  pub area_damaged : n < suc header.before_last → (content : List ℕ) → after.seen ≡ content → IsDamaged (area_of header.geometry index) next content → IsAreaDamaged content header
   area_damaged below content seen damaged =
-      one_damaged (areas_in header.geometry) n (suc header.in_front) header.first_area header.geometry (next_number header.base) so_far.lists content below
+      one_damaged (areas_in header.geometry) n (suc header.before_last) header.first_area header.geometry (next_number header.base) so_far.lists content below
       (subst (λ (bytes : List ℕ). HoldLists (ring (areas_in header.geometry) n header.first_area) bytes header.geometry (next_number header.base) so_far.lists) seen
       (held_lists _ header.geometry (next_number header.base) so_far.lists (earlier_of plans) after still_held))
       (subst (λ (first : ℕ). IsDamaged (area_of header.geometry index) first content) so_far.next_is damaged)
 
 -- all of those before the last are read, and the last
-pub all_held : (header : Header) (plans : List PlanState) (before after : State) (next : ℕ) → AreHeldSoFar before header header.in_front plans next → before.seen ≡ after.seen → IsAllSynced after
+pub all_held : (header : Header) (plans : List PlanState) (before after : State) (next : ℕ) → AreHeldSoFar before header header.before_last plans next → before.seen ≡ after.seen → IsAllSynced after
     → (area : AreaState) → IsPlaced area header.geometry (last_area header) → HoldsList area next after → (lists : List (List StoredGroup)) × HoldsAreas after header lists (earlier_of plans) area
 all_held header plans before after next so_far same synced area placed holds = (
   so_far.lists ++ holds.groups ∷ [],
@@ -89,7 +89,7 @@ all_held header plans before after next so_far same synced area placed holds = (
     front = so_far.lists;
     groups = holds.groups;
     are = refl;
-    earlier_held = still_held header header.in_front plans before after next so_far same synced;
+    earlier_held = still_held header header.before_last plans before after next so_far same synced;
     placed = placed;
     held = subst (λ (first : ℕ). IsHeld area first holds.groups after) so_far.next_is holds.held;
   },

@@ -9,7 +9,7 @@ use Rattle.frame_pool.specs.Lists.{ListsState, total, times, without, moved}
 use Rattle.frame_pool.specs.inner.Lists.{list_at}
 use Rattle.frame_pool.specs.Ring.{IsPath, AreLinks, AreLinked, start_of, end_of, ring_of, linked as linked_list, lists_of}
 use Rattle.frame_pool.specs.laws.Times.{times-append, times-without_same, times-without_other, times_other, head_other}
-use Rattle.frame_pool.proofs.Moved.{times_in, times_once, times_none, total-moved, HoldEach-moved}
+use Rattle.frame_pool.proofs.FrameChangesList.{times_in, times_once, times_none, total-moved, HoldEach-moved}
 use Rattle.frame_pool.proofs.RingMoves.{next-previous, previous-next, path-unlinked, path-linked, walk_path}
 
 pub AreLinks-set : (nodes : ℕ) (links : List ℕ) (at node : ℕ) → node < nodes → AreLinks nodes links → AreLinks nodes (set links at node)

@@ -7,14 +7,14 @@ use Rattle.header_slots.specs.Slots.{HoldsHeader}
 use Rattle.header_slots.specs.declared.header.Header.{Header}
 use Rattle.header_slots.specs.laws.Frame.{same_reading}
 use Rattle.image_model.specs.declared.side.Side.{Side}
-use Rattle.device_image.specs.inner.Copied.{IsTurnBegun, LeavesTurn}
+use Rattle.device_image.specs.inner.Copied.{IsAreaStarted, LeavesAreaStart}
 
 module _ (before : State) (extent from : ℕ) (calm : IsSteady before) (synced : IsSyncedIn before 0 8192) (behind : 8192 ≤ from) (current : Header) (slot : Side) (held : HoldsHeader before.seen extent current slot) (header : Header) where
   in_slots : (place : ℕ) → place < 8192 → before.unsynced place → ⊥
   in_slots place below = synced place (omega arith, omega (arith, below))
 
   -- while the gate is closed
-  pub closing_left : (content : List ℕ) → MayLeaveTorn before from 1 content → LeavesTurn before extent from current slot header content
+  pub closing_left : (content : List ℕ) → MayLeaveTorn before from 1 content → LeavesAreaStart before extent from current slot header content
   closing_left content left = record {
     size = left.size;
     others = λ place above other stable. left.same place stable (λ within. other (omega (arith, within)));
@@ -35,14 +35,14 @@ module _ (before : State) (extent from : ℕ) (calm : IsSteady before) (synced :
     slots_synced place within = stored.synced place
 
     -- while the header changes
-    pub change_left : (content : List ℕ) → LeavesEither mid extent current slot header content → LeavesTurn before extent from current slot header content
+    pub change_left : (content : List ℕ) → LeavesEither mid extent current slot header content → LeavesAreaStart before extent from current slot header content
     change_left content left = record {
       size = left.outside.size ∙ mid_sound.size ∙ sym sound.size;
       others = λ place above other stable. left.outside.same place above (stored.synced place) ∙ mid_same place other;
       either = ⊎_elim (λ old. inl old) (λ new. inr (left.outside.same from behind (stored.synced from) ∙ mid_closed, new)) left.either;
     }
 
-    pub begun_at : (after : State) (other : Side) → IsInPlace mid extent header other after → IsTurnBegun before extent from header other after
+    pub begun_at : (after : State) (other : Side) → IsInPlace mid extent header other after → IsAreaStarted before extent from header other after
     begun_at after other placed = record {
       held = placed.held;
       closed = placed.others from behind (λ loose. stored.synced from (mid_sound.loose from loose)) ∙ mid_closed;

@@ -17,7 +17,7 @@ use Rattle.frame_pool.specs.Lists.{ListsState, total, times, without, moved}
 use Rattle.frame_pool.specs.Numbers.{AreNumbered, kept_at, number_at, numbered, one_if_kept, pool_of}
 use Rattle.frame_pool.specs.Pool.{DirtyFrame, PoolState, IsPool, frames_of, others, is_dirty, front_through, with_bytes, with_free, with_clean, with_dirty}
 use Rattle.frame_pool.specs.laws.Times.{times-without_same, times-without_other, times_head, length-without}
-use Rattle.frame_pool.proofs.Moved.{total-moved, HoldEach-moved, times-last_same, times-last_other, length-last}
+use Rattle.frame_pool.proofs.FrameChangesList.{total-moved, HoldEach-moved, times-last_same, times-last_other, length-last}
 
 pub frames_of-numbered : (numbers : List (Option ℕ)) (frames : List ℕ) → frames_of (numbered numbers frames) ≡ frames
 frames_of-numbered numbers [] = refl

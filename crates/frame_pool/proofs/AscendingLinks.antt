@@ -58,7 +58,7 @@ path_up next previous from (suc count) rest up path =
     let P : ℕ → Type 0 = λ v. IsPath next previous v rest in
     (here.0, here.1, path_up next previous (from + 1) count rest (λ node above below. up node (omega arith) (omega arith)) (subst P (omega arith) path))
 
--- links of so many nodes, each to the one so many steps ahead
+-- links of `nodes` nodes, each to the one that is `step` places after it
 AreLinks-steps : (nodes step : ℕ) → 0 < nodes → AreLinks nodes (map (λ node. (node + step) % nodes) (range_with_len 0 nodes))
 AreLinks-steps nodes step some = record {
   size = length-map-range_with_len _ 0 nodes;

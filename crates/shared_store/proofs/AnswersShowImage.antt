@@ -34,8 +34,8 @@ use Rattle.shared_store.specs.Answers.{ServesImage, TellsImage}
 use Rattle.shared_store.specs.Keepers.{IsOfHistory}
 use Rattle.shared_store.specs.Orders.{AreRight, IsOrderOfHistory, KeepsImage, SpanRead, Trusting, behind_noted, noted_base}
 use Rattle.shared_store.proofs.OrderKnowsHistory.{clean_at, noted_clean}
-use Rattle.shared_store.proofs.Resting.{told_by}
-use Rattle.shared_store.proofs.Serving.{gives_base, read_for}
+use Rattle.shared_store.proofs.UnlockedReadPremises.{told_by}
+use Rattle.shared_store.proofs.ServingKeepsHistory.{gives_base, read_for}
 
 bytes_same : (one other : Image) (place count : ℕ) → ((k : ℕ) → k < count → one.byte (place + k) ≡ other.byte (place + k)) → bytes_from one place count ≡ bytes_from other place count
 unfolding bytes_from

@@ -4,9 +4,9 @@ use Rattle.latest_writes.specs.Ranges.{AreLastTouches}
 use Rattle.device_image.specs.Keeper.{PlanState, TellSame}
 use Rattle.device_image.specs.laws.Puts.{count_zero}
 use Rattle.device_image.specs.Plan.{remembered, told_by}
-use Rattle.device_image.proofs.Counts.{counted_puts}
-use Rattle.device_image.proofs.Told.{tells_same, told_last, told_within}
-use Rattle.device_image.proofs.plan.CopyPlan.of.Goals as goal
+use Rattle.device_image.proofs.BlocksLeftToCopy.{counted_puts}
+use Rattle.device_image.proofs.RememberedTouches.{tells_same, told_last, told_within}
+use Rattle.device_image.proofs.plan.CopyPlan.new.Goals as goal
 
 pub invariant_of-result : goal.invariant_of-result
 invariant_of-result c =
