@@ -1,5 +1,6 @@
 ghost use Rattle.std.specs.Prelude.{⊤, true};
 
+use crate::fakes::{FakeReader, FakeWriter};
 use image_model::Geometry;
 use nbd_wire::{
     Answer, BLOCK_STATUS, Errno, READ, ReadBytes, Reply, Request, RequestHead, SessionFlags,
@@ -8,7 +9,6 @@ use negotiation::{End, OfferedName, Serve, serve_session};
 use std::alloc::{AllocError, Global};
 use std::io::{Read, Write};
 use std::test::Fail;
-use stream_fakes::{FakeReader, FakeWriter};
 
 /// An export of 16 blocks, which answers a READ with bytes 41, BLOCK_STATUS with EINVAL and all else with success. Requests
 /// with even cookies may keep their caller waiting. Of a connection it keeps how many requests it answered.

@@ -1,5 +1,5 @@
+use crate::fakes::{FakeReader, FakeWriter};
 use std::io::{self, ErrorKind, Read, Write};
-use stream_fakes::{FakeReader, FakeWriter};
 
 /// A stream of which one call fails, and those after it work again.
 pub struct FailsOnce<S> {

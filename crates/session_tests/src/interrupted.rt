@@ -1,5 +1,5 @@
+use crate::fakes::{FakeReader, FakeWriter};
 use std::io::{self, ErrorKind, Read, Write};
-use stream_fakes::{FakeReader, FakeWriter};
 
 /// A stream of which every other call is interrupted, the first among them.
 pub struct Interrupted<S> {

@@ -7,9 +7,13 @@ mod export;
 #[cfg(test)]
 mod failing;
 #[cfg(test)]
+mod fakes;
+#[cfg(test)]
 mod interrupted;
 #[cfg(test)]
 mod room_tests;
+#[cfg(test)]
+mod row;
 #[cfg(test)]
 mod stream_tests;
 #[cfg(test)]

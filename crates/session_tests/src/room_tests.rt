@@ -1,11 +1,12 @@
 use crate::export::{serve, serve_over};
+use crate::fakes::{FakeReader, FakeWriter};
 use crate::interrupted::Interrupted;
+use crate::row::bytes_of;
 use nbd_wire::{RequestHead, StreamReader, WRITE, encode_request};
 use negotiation::End;
 use std::alloc::{AllocError, Global};
 use std::process::Abort;
 use std::test::Fail;
-use stream_fakes::{FakeReader, FakeWriter, bytes_of};
 
 const MANY: usize = 100_000_000;
 

@@ -1,12 +1,13 @@
 use crate::export::{serve, serve_over};
 use crate::failing::FailsOnce;
+use crate::fakes::{FakeReader, FakeWriter};
 use crate::interrupted::Interrupted;
+use crate::row::bytes_of;
 use negotiation::End;
 use std::alloc::{AllocError, Global};
 use std::io::Read;
 use std::process::Abort;
 use std::test::Fail;
-use stream_fakes::{FakeReader, FakeWriter, bytes_of};
 
 const MANY: usize = 100_000_000;
 

@@ -1,9 +1,10 @@
 use crate::export::serve;
+use crate::fakes::{FakeReader, FakeWriter};
+use crate::row::bytes_of;
 use negotiation::End;
 use std::alloc::{AllocError, Global};
 use std::process::Abort;
 use std::test::Fail;
-use stream_fakes::{FakeReader, FakeWriter, bytes_of};
 
 const MANY: usize = 100_000_000;
 
