@@ -4,7 +4,7 @@ use std::rt::Clock;
 use std::time::{Duration, Instant};
 
 /// Groups aren't gathered where storing one took fewer microseconds.
-const LEAST_APPEND: u64 = 500;
+const LEAST_APPEND: u64 = 100;
 
 /// A group is gathered for a quarter of the time that the last one took to be stored, and for no more milliseconds than these.
 const MOST_GATHERED: u64 = 25;
