@@ -14,6 +14,9 @@
  *         mixed      4 KiB at random places, 7 of 10 read and the others written, 16 in flight
  *         write-512  512 bytes at random places, 16 in flight
  *         read-512   the same, read
+ * bench_client times URI KIND CONNECTIONS SECONDS BLOCKS
+ *     The same, of a kind whose requests have 4 KiB. It prints the rate, and then the median, the 99th percentile, the 999th of a thousand and the
+ *     longest of the times of a request, or of a write with its FLUSH.
  * bench_client fill URI BLOCKS [PIECE]
  *     Writes these blocks, PIECE at a time (256 unless given), and flushes.
  * bench_client beside URI LENGTH FLUSHERS SECONDS BLOCKS
@@ -223,7 +226,44 @@ static void finish(struct connection *it) {
     for (unsigned k = 0; k < it->kind->depth; k++) free(it->slots[k].data);
 }
 
-static void run(const char *uri, const char *name, unsigned count, double seconds, uint64_t blocks) {
+static int longer(const void *one, const void *other) {
+    double left = *(const double *)one, right = *(const double *)other;
+    return (left > right) - (left < right);
+}
+
+static void print_waits(double *times, size_t count) {
+    qsort(times, count, sizeof *times, longer);
+    if (count == 0) fail("no answer");
+    printf(" %.0f %.0f %.0f %.0f", times[count / 2] * 1e6, times[count * 99 / 100] * 1e6, times[count * 999 / 1000] * 1e6, times[count - 1] * 1e6);
+}
+
+/* Keeps the times of a connection's requests, or prints those that each has kept. */
+static void keep_times(struct connection *it) {
+    double *kept = malloc(MOST_TIMES * sizeof *kept);
+    if (!kept) fail("memory");
+    if (it->kind->flushes || it->kind->has_fua) {
+        it->times = kept;
+    } else {
+        it->taken = kept;
+    }
+}
+
+static void print_times(struct connection *connections, unsigned count) {
+    double *times = malloc(count * MOST_TIMES * sizeof *times);
+    size_t all = 0;
+    if (!times) fail("memory");
+    for (unsigned k = 0; k < count; k++) {
+        double *kept = connections[k].times ? connections[k].times : connections[k].taken;
+        size_t many = connections[k].answered < MOST_TIMES ? connections[k].answered : MOST_TIMES;
+        memcpy(times + all, kept, many * sizeof *times);
+        all += many;
+        free(kept);
+    }
+    print_waits(times, all);
+    free(times);
+}
+
+static void run(const char *uri, const char *name, unsigned count, double seconds, uint64_t blocks, int is_timed) {
     static struct connection connections[MOST_CONNECTIONS];
     const struct kind *kind = NULL;
     for (size_t k = 0; k < sizeof kinds / sizeof kinds[0]; k++) {
@@ -233,7 +273,10 @@ static void run(const char *uri, const char *name, unsigned count, double second
         fprintf(stderr, "bench_client: no such run\n");
         exit(2);
     }
-    for (unsigned k = 0; k < count; k++) prepare(&connections[k], uri, kind, k, blocks);
+    for (unsigned k = 0; k < count; k++) {
+        prepare(&connections[k], uri, kind, k, blocks);
+        if (is_timed) keep_times(&connections[k]);
+    }
     double begun = now();
     for (unsigned k = 0; k < count; k++) begin(&connections[k], begun + seconds);
     uint64_t answered = 0;
@@ -243,7 +286,9 @@ static void run(const char *uri, const char *name, unsigned count, double second
     }
     double took = now() - begun;
     for (unsigned k = 0; k < count; k++) finish(&connections[k]);
-    printf("%.0f\n", answered / took);
+    printf("%.0f", answered / took);
+    if (is_timed) print_times(connections, count);
+    printf("\n");
 }
 
 static void fill(const char *uri, uint64_t blocks, uint64_t piece) {
@@ -256,11 +301,6 @@ static void fill(const char *uri, uint64_t blocks, uint64_t piece) {
     }
     if (nbd_flush(it.nbd, 0) == -1) fail("a flush");
     finish(&it);
-}
-
-static int longer(const void *one, const void *other) {
-    double left = *(const double *)one, right = *(const double *)other;
-    return (left > right) - (left < right);
 }
 
 static void beside(const char *uri, unsigned length, unsigned flushers, double seconds, uint64_t blocks) {
@@ -336,12 +376,6 @@ static void stall(const char *uri, double seconds, uint64_t blocks) {
     finish(&reader);
     free(flusher.times);
     free(times);
-}
-
-static void print_waits(double *times, size_t count) {
-    qsort(times, count, sizeof *times, longer);
-    if (count == 0) fail("no answer");
-    printf(" %.0f %.0f %.0f %.0f", times[count / 2] * 1e6, times[count * 99 / 100] * 1e6, times[count * 999 / 1000] * 1e6, times[count - 1] * 1e6);
 }
 
 static void waits(const char *uri, double seconds, uint64_t blocks) {
@@ -427,7 +461,9 @@ static void start(const char *path, char **command) {
 
 int main(int argc, char **argv) {
     if (argc == 7 && strcmp(argv[1], "run") == 0) {
-        run(argv[2], argv[3], (unsigned)atoi(argv[4]), atof(argv[5]), strtoull(argv[6], NULL, 10));
+        run(argv[2], argv[3], (unsigned)atoi(argv[4]), atof(argv[5]), strtoull(argv[6], NULL, 10), 0);
+    } else if (argc == 7 && strcmp(argv[1], "times") == 0) {
+        run(argv[2], argv[3], (unsigned)atoi(argv[4]), atof(argv[5]), strtoull(argv[6], NULL, 10), 1);
     } else if ((argc == 4 || argc == 5) && strcmp(argv[1], "fill") == 0) {
         fill(argv[2], strtoull(argv[3], NULL, 10), argc == 5 ? strtoull(argv[4], NULL, 10) : LONG_BLOCKS);
     } else if (argc == 7 && strcmp(argv[1], "beside") == 0) {
