@@ -34,8 +34,8 @@ use std::thread::{self, Scope, Threads};
 
 /// Serves the clients that arrive at sockets and ask for this name, from a device that was opened, and gives the device back once the server has come
 /// to its end: as many sessions have ended as the options say, `input` has ended where they say so, or a call of the device has
-/// failed. `watch` is told once all threads are there, and what happens, and may hold the threads. Refusals 0 (no memory, and nobody was served), 1 (device fault, or
-/// not all is stored) and 21 (the socket). When it ends, and with which of them, isn't said.
+/// failed. `watch` is told once all threads are there, and what happens, and may hold the threads. Refusals 0 (no memory, and nobody was served), 1 (device fault,
+/// not all is stored, or the pass of a client is missing at the end, which should not happen) and 21 (the socket). When it ends, and with which of them, isn't said.
 ///
 /// Where the device is trusted, whatever a crash at some moment of it may have left stands for the image that was found after a
 /// beginning of one history of write commands; and at Ok whatever one may leave then stands for the image after all of that. At Ok
@@ -43,8 +43,9 @@ use std::thread::{self, Scope, Threads};
 ///
 /// There are a log of requests and answers, over all threads, and one history of write commands with which it agrees: each answer has what all
 /// others in the log were answered before its request was sent. Whatever a crash may leave in the end has all that the log covers, and at Ok all
-/// of the history. All that the log has of a client whose worker has ended comes from sessions over streams, as `serve_session` has them: the
-/// requests that were read, with the answers whose replies were written. Which bytes a socket gave and took is said by no clause.
+/// of the history. What the log has of a client whose worker has ended comes from sessions over streams, as `serve_session` has them: the requests
+/// that were read, with the answers whose replies were written. At Ok the log has nothing else. Which bytes a socket gave and took is said by no
+/// clause.
 pub fn serve<D, H, R, I, G>(
     rt: &R,
     alloc: Global,
