@@ -41,6 +41,24 @@ module _ (allows : PassState → Message → SessionFlags → PassState → Repl
       let first = step_logged flags old p.0 exchange is p.1 in let rest = steps_logged flags p.0 new exchanges first.0 p.2 in
       (rest.0, (p.0.client.mine, first.1, rest.1))
 
+  pub session_served : (offer other : Offer) (old new : PassState) (input left output made : Option (List ℕ)) (end : Result (Unit {0}) End) → offer ≡ other → old.client.by ≡ by
+      → IsServed allows offer old new input left output made end → IsServed (IsLogged geometry by) other old.client.mine new.client.mine input left output made end
+  session_served offer other old new input left output made end same is served =
+      let logged = steps_logged served.outcome.agreed.flags old new served.exchanges is served.steps in subst (λ (o : Offer). IsServed (IsLogged geometry by) o old.client.mine new.client.mine input left output made end) same (record {
+        stream = served.stream;
+        unheard = served.unheard;
+        outcome = served.outcome;
+        exchanges = served.exchanges;
+        unanswered = served.unanswered;
+        text = served.text;
+        unsent = served.unsent;
+        read = served.read;
+        owed = served.owed;
+        steps = logged.1;
+        written = served.written;
+        ends = served.ends;
+      })
+
   pub session_logged : (offer : Offer) (old new : PassState) (input left output made : Option (List ℕ)) (end : Result (Unit {0}) End) → old.client.by ≡ by
       → IsServed allows offer old new input left output made end → (new.client.by ≡ by) × IsSession offer geometry by old.client.mine new.client.mine
   session_logged offer old new input left output made end is served =

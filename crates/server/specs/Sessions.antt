@@ -18,8 +18,8 @@ abbrev pub IsLogged : Geometry → ℕ → List Event → Message → SessionFla
 IsLogged geometry by old request flags new reply =
     (new ≡ old ++ Sent by request ∷ Answered by reply.answer ∷ []) × IsJudged (verdict request.head geometry flags) request reply.answer
 
--- A session over some streams, as `serve_session` has it, took what the log has of its client from `old` to `new`: it gained the requests
--- that were handed over, each with the answer whose reply was written.
+-- A session over some streams, as `serve_session` has it, took what the log has of its client from `old` to `new`: it gained the first of the
+-- requests that were handed over, each with the answer that it got.
 pub record IsSession (offer : Offer) (geometry : Geometry) (by : ℕ) (old new : List Event) : Type 0 where
   pub input : Option (List ℕ)
   pub left : Option (List ℕ)

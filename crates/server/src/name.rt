@@ -15,7 +15,7 @@ impl ServerName for Brand {
     ghost use Rattle.std.specs.Prelude.{[], false};
 
     ghost offer = { record {
-      size = 0;
+      size = 4096;
       name = [];
       flushes = false;
     } };

@@ -34,7 +34,7 @@ use std::thread::{self, Scope, Threads};
 
 /// Serves the clients that arrive at sockets and ask for this name, from a device that was opened, and gives the device back once the server has come
 /// to its end: as many sessions have ended as the options say, `input` has ended where they say so, or a call of the device has
-/// failed. `watch` is told once all threads are there, and what happens, and may hold the threads. Refusals 0 (no memory, and nobody was served), 1 (device fault,
+/// failed. `watch` is told once all threads are there, and what happens, and may hold the threads. Refusals 0 (no memory to begin), 1 (device fault,
 /// not all is stored, or the pass of a client is missing at the end, which should not happen) and 21 (the socket). When it ends, and with which of them, isn't said.
 ///
 /// Where the device is trusted, whatever a crash at some moment of it may have left stands for the image that was found after a
@@ -42,10 +42,11 @@ use std::thread::{self, Scope, Threads};
 /// the device has counted no fault since it was opened; a failed read by its second handle is none.
 ///
 /// There are a log of requests and answers, over all threads, and one history of write commands with which it agrees: each answer has what all
-/// others in the log were answered before its request was sent. Whatever a crash may leave in the end has all that the log covers, and at Ok all
-/// of the history. What the log has of a client whose worker has ended comes from sessions over streams, as `serve_session` has them: the requests
-/// that were read, with the answers whose replies were written. At Ok the log has nothing else. Which bytes a socket gave and took is said by no
-/// clause.
+/// others in the log were answered before its request was sent; of what a READ shows this is said if the device and its second handle are
+/// trusted. Whatever a crash may leave in the end of a trusted device has all that the log covers, and at Ok all of the history. What the log has
+/// of the clients in its list comes from sessions over streams, as `serve_session` has them: the first of the requests that were handed over, with
+/// the answers that they got. At Ok the list has all clients, so the log has nothing else. A worker counts as one client, whatever sockets it
+/// serves. Which bytes a socket gave and took is said by no clause.
 pub fn serve<D, H, R, I, G>(
     rt: &R,
     alloc: Global,
@@ -329,7 +330,9 @@ where
 // Why a server couldn't begin, whether a call of the device has failed, and whether the log's list has all clients, which it always does:
 // each worker hands its pass back.
 fn outcome_of(served: Result<(), Refusal>, has_failed: bool, has_all: bool) -> Result<(), Refusal>
-    ensures { OnOk result (IsTrue has_all) }
+    ensures served { OnOk result (IsOk served) }
+    ensures works { OnOk result (has_failed ≡ false) }
+    ensures all { OnOk result (IsTrue has_all) }
 {
     served?;
     if has_failed || !has_all {
@@ -368,7 +371,7 @@ where
     G: SyncPoints + Log + Copy + Send + Sync,
 {
     // Starts the threads, and tells that clients are served. If not as many workers can be started, fewer clients are served at a time;
-    // without any other thread, nobody is.
+    // without any other thread the server ends.
     fn start_threads<'s, E>(&'s self, scope: &Scope<'s, E>) -> Result<(), Refusal> {
         if !self.start_workers(scope) {
             return Err(Refusal::NoMemory);

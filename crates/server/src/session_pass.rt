@@ -3,7 +3,8 @@ ghost use Rattle.std.specs.Prelude.{◌≡◌, ◌≤◌, ◌<◌, ℕ, [], fals
 ghost use Rattle.export.specs.Clients.{new_client_passes};
 ghost use Rattle.export_model.specs.Log.{flush_waits};
 ghost use Rattle.negotiation.specs.Answered.{offered};
-ghost use Rattle.server.specs.Sessions.{AreServed, HasAll, HasCall, HasSessions};
+ghost use Rattle.negotiation.specs.Serving.{IsServed};
+ghost use Rattle.server.specs.Sessions.{AreServed, HasAll, HasCall, HasSessions, IsLogged};
 
 use crate::log::Log;
 use crate::name::ServerName;
@@ -32,7 +33,7 @@ pub(crate) struct SessionPass<B: ServerName> {
 }
 
 impl<B: ServerName> SessionPass<B> {
-    /// Serves a session over these streams from its first byte to its last.
+    /// Serves a session over these streams from its first byte to its last. The log gains its requests with their answers.
     pub(crate) fn serve<D, H, T, R, L, I, O>(
         &mut self,
         alloc: Global,
@@ -49,6 +50,7 @@ impl<B: ServerName> SessionPass<B> {
         I: Read,
         O: Write,
         requires { offered handler.now.export.now.geometry handler.now.name.bytes.now (flush_waits handler.now.export.now.mode) ≡ B.offer }
+        ensures { IsServed (IsLogged B.geometry self.old.number) B.offer self.old.pass.client.mine self.new.pass.client.mine (I.remaining input.old) (I.remaining input.new) (O.contents output.old) (O.contents output.new) result }
     {
         serve_session(alloc, input, output, handler, &mut self.pass)
     }

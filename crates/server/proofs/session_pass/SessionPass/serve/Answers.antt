@@ -5,7 +5,7 @@ use Rattle.export_model.specs.declared.event.Event.TheVariants.{Sent, Answered}
 use Rattle.image_model.specs.declared.geometry.Geometry.{Geometry}
 use Rattle.negotiation.specs.Answered.{Offer}
 use Rattle.server.specs.Sessions.{HasSessions, IsSession}
-use Rattle.server.proofs.Sessions.{session_logged, session_more}
+use Rattle.server.proofs.Sessions.{session_logged, session_more, session_served}
 use Rattle.server.proofs.session_pass.SessionPass.serve.Goals as goal
 
 -- one session more, whose requests and answers the handler has logged
@@ -26,3 +26,15 @@ invariant_of-self g c =
           (subst (λ (n : ℕ). HasSessions offer geometry n old.pass.client.mine) old.by old.served)
           (subst (λ (o : Offer). IsSession o geometry old.number old.pass.client.mine new.client.mine) c.requires session.1);
     }
+
+-- the session over these very streams
+pub returns : goal.returns
+returns g c =
+    let old = c.args.self.now in let new = c.serve_session.new.pass in let geometry = g.B.ExportName.geometry in
+    session_served _ geometry old.number (λ before after request flags reply allowed is. (
+      allowed.3 ∙ is,
+      (
+        subst (λ (n : ℕ). after.client.mine ≡ before.client.mine ++ Sent n request ∷ Answered n reply.answer ∷ []) is allowed.4,
+        subst (λ (t : Geometry). IsJudged (verdict request.head t flags) request reply.answer) c.args.handler.now.export.now.sized allowed.1,
+      ),
+    )) _ _ old.pass new _ _ _ _ _ c.requires old.by c.serve_session.ensures
