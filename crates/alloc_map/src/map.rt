@@ -86,6 +86,8 @@ impl AllocMap {
     }
 
     /// A copy of the bytes of a map slot that holds this map. Refusal 0 (no memory).
+    ///
+    /// The server writes `bytes` and doesn't call it. It is for callers that keep the bytes, and read them by `from_bytes`.
     pub fn to_bytes(&self, alloc: Global) -> Result<Vec<u8>, AllocError>
         ensures { IfOk result (λ bytes. IsMapOf bytes.items self.now) }
     {

@@ -669,7 +669,7 @@ impl<B: ExportName> CommitQueue<B> {
         self.waiters.put_back();
         if let Err(other) = self.order.put_back(board, sealed) {
             // One group is sealed at a time, so it is the one in hand.
-            other.let_go();
+            other.discard();
         }
         self.is_storing = false;
         self.calls_flusher = true;

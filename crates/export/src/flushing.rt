@@ -89,7 +89,7 @@ impl<B: ExportName, D: Disk, H: ReadUnlocked, T: Trust> Export<B, D, H, T> {
                 retries.wait(rt);
                 if retries.is_long() && self.gives_up(rt, retries) {
                     if let Some(group) = back {
-                        group.let_go();
+                        group.discard();
                     }
                     return None;
                 }

@@ -36,7 +36,7 @@ pub struct Area {
     buffer: Vec<u8>,
 }
 
-// Written out, it is proved once, and not again in each function that lets an area go.
+// Written by hand, it is proved once, and not in each function that drops an area.
 impl Drop for Area {
     fn drop(self) {
         let Area {
@@ -120,7 +120,7 @@ impl Area {
 }
 
 impl Area {
-    /// Closes the area's first gate, without a sync: its list is empty, and its next number stays.
+    /// Empties the area's list by closing its first gate, without a sync. Its next number stays.
     ///
     /// Before the next `append` the device has to be synced. Refusal 1 (device fault).
     pub fn close_first<D: Disk>(&mut self, disk: &mut D) -> Result<(), DeviceFault>
@@ -150,8 +150,8 @@ impl Area {
     /// Adds the group at the end of the list and makes it stable.
     ///
     /// Four calls of the device: the group's body and the closed gate after it, sync, its gate, sync. Refusals 0 (no
-    /// memory), 1 (device fault), 10 (area full) and 11 (out of order): the group comes back, and after a device fault the
-    /// area isn't written again before it is scanned anew.
+    /// memory), 1 (device fault), 10 (area full) and 11 (out of order): the group comes back. After a device fault the
+    /// area has to be scanned before it is written again.
     pub fn append<D: Disk>(
         &mut self,
         disk: &mut D,
@@ -164,7 +164,7 @@ impl Area {
         ensures extent { D.extent disk.new ≡ D.extent disk.old }
         ensures honest { D.honest disk.new ↔ D.honest disk.old }
 
-        // When it is refused, and which refusals count as a fault of the device and may have changed it.
+        // When it is refused, and which refusals count as device faults and may have changed the disk.
         ensures full { IsErrAnd result (λ refused. refused.0 ≡ JournalFault.AreaFull) ↔ (self.old.bytes < end_after self.old group) }
         ensures out_of_order { IsErrAnd result (λ refused. refused.0 ≡ JournalFault.OutOfOrder)
             ↔ ((end_after self.old group ≤ self.old.bytes) × (IsNext self.old group → ⊥)) }
@@ -173,8 +173,8 @@ impl Area {
         ensures faults_err { IfErr result (λ refused. D.faults disk.new ≡ faults_by refused.0 (D.faults disk.old)) }
         ensures unchanged { IfErr result (λ refused. (refused.0 ≡ JournalFault.DeviceFault) ⊎ (disk.new ≡ disk.old)) }
 
-        // On an honest device, where the area holds these groups, is at their end, and nothing in it is unsynced: at
-        // `Ok` the list has the group added, and a crash at any moment leaves it without the group or with it.
+        // On an honest device, if the area holds these groups and is at their end, and nothing in it is unsynced: at `Ok`
+        // the list has the group too; a crash at any moment leaves it with or without the group.
         ensures stored { D.honest disk.old → (first : ℕ) (groups : List StoredGroup) → IsHeld self.old first groups (D.state disk.old)
             → AreChanges self.old.blocks (stored_of group).changes
             → OnOk result (IsListStored self.new first (groups ++ stored_of group ∷ []) (D.state disk.old) (D.state disk.new)) }
@@ -184,7 +184,7 @@ impl Area {
     {
         let held = self.touched.len();
         let stored = self.store(disk, &group);
-        let_go(&mut self.buffer);
+        shrink(&mut self.buffer);
         match stored {
             Ok(()) => {
                 self.gate += GROUP_HEAD_BYTES + group.body_bytes();
@@ -199,8 +199,8 @@ impl Area {
         }
     }
 
-    // Writes the group after the list and opens its gate. What the group touches is noted; else what the area remembers
-    // of its list stays as it was.
+    // Writes the group after the list, opens its gate, and notes what it touches. The area's other fields stay as they
+    // were.
     fn store<D: Disk>(&mut self, disk: &mut D, group: &Group) -> Result<(), JournalFault>
         requires { self.old.from + self.old.bytes ≤ D.extent disk.old }
         ensures noted { OnOk result (self.new ≡ record self.old { touched = (grown self.old group.now).touched }) }
@@ -223,7 +223,7 @@ impl Area {
             → AreChanges self.old.blocks (stored_of group.now).changes
             → LeavesOnly (D.state disk.old) (D.state disk.new) (LeavesEither self.old first groups (stored_of group.now) (D.state disk.old)) }
     {
-        self.check(group)?;
+        self.check_group(group)?;
         let gate = self.from + self.gate as u64;
         group.spell(&mut self.buffer)?;
         group.note(gate + GROUP_HEAD_BYTES as u64, &mut self.touched)?;
@@ -233,8 +233,8 @@ impl Area {
 }
 
 impl Area {
-    /// Reads the list that the area holds, from its first gate on; the area's next number is the one that its first
-    /// group has to begin with.
+    /// Reads the list that the area holds, from its first gate on. Its first group has to begin with the area's next
+    /// number.
     ///
     /// It takes memory for what the commands touched, and 1 MiB while it reads. Refusals 0 (no memory), 1 (device fault)
     /// and 12 (damaged group: no whole group with the next numbers stands after an open gate), which change nothing.
@@ -252,8 +252,8 @@ impl Area {
         // On an honest device nothing is written, and a crash leaves what it might have left before.
         ensures only_read { D.honest disk.old → IsOnlyRead (D.state disk.old) (D.state disk.new) }
 
-        // If besides nothing of the area is unsynced: at `Ok` the area is at the end of the list that it holds, and
-        // `DamagedGroup` comes only where it is damaged, and some refusal always does there.
+        // If nothing of the area is unsynced either: at `Ok` the area is at the end of its list; `DamagedGroup` comes only
+        // if the area is damaged; and a damaged area is always refused.
         ensures held { D.honest disk.old → IsSyncedIn (D.state disk.old) self.old.from self.old.bytes
             → OnOk result (HoldsList self.new self.old.next (D.state disk.new)) }
         ensures damaged { D.honest disk.old → IsSyncedIn (D.state disk.old) self.old.from self.old.bytes
@@ -283,7 +283,7 @@ impl Area {
     }
 
     // Whether the group fits and is the next one.
-    fn check(&self, group: &Group) -> Result<(), JournalFault>
+    fn check_group(&self, group: &Group) -> Result<(), JournalFault>
         ensures fits { OnOk result (end_after self.now group.now ≤ self.now.bytes) }
         ensures next { OnOk result (IsNext self.now group.now) }
         ensures full { IsErrOf result JournalFault.AreaFull ↔ (self.now.bytes < end_after self.now group.now) }
@@ -302,8 +302,8 @@ impl Area {
     }
 }
 
-// Keeps the memory of the buffer for the next group only where that is little.
-fn let_go(buffer: &mut Vec<u8>)
+// Frees the buffer's memory if it is more than is kept for the next group.
+fn shrink(buffer: &mut Vec<u8>)
     ensures { vec_capacity buffer.new ≤ 1048576 }
 {
     if buffer.capacity() > MOST_KEPT_BYTES {
@@ -312,7 +312,7 @@ fn let_go(buffer: &mut Vec<u8>)
     }
 }
 
-// Writes what stands after the gate, and when that is stable opens the gate.
+// Writes what stands after the gate, syncs, opens the gate, and syncs.
 fn write_group<D: Disk>(disk: &mut D, gate: u64, body: &[u8]) -> Result<(), DeviceFault>
     requires { gate + 1 + length body.now ≤ D.extent disk.old }
     ensures extent { D.extent disk.new ≡ D.extent disk.old }

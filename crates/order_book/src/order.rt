@@ -321,6 +321,8 @@ impl<B: BoardName> Order<B> {
     /// hands the command back.
     ///
     /// The refusals, in the order in which they are looked for: 18 (stopped), 9 (numbers full), 17 (no room), 0 (no memory).
+    ///
+    /// The server accepts requests, whose edits become commands, and doesn't call it. It is for callers that have commands.
     pub fn accept<T: Trust>(
         &mut self,
         board: &Board<B, T>,
@@ -523,6 +525,8 @@ impl<B: BoardName> Order<B> {
 
     /// Reads blocks from `first` on, as all that was accepted left them. Refusal 14 (missing block), exactly if one that is data
     /// has no frame; the slice then holds any bytes.
+    ///
+    /// The server reads block by block and doesn't call it. It is for callers that want a range or nothing.
     pub fn read_cached(&self, first: u64, into: &mut [[u8; 4096]]) -> Result<(), Missing>
         requires range { first + length into.old ≤ length self.now.cache.states }
         ensures ok { OnOk result ((k : ℕ) (d : List ℕ) → k < length into.new → bytes_seen self.now.cache (first + k) ≡ Some (slice_index_or into.new k d)) }

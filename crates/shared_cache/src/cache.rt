@@ -206,6 +206,8 @@ impl Cache {
 
     /// Reads blocks from the first one on: the bytes of its frame for one that is data, else zero. It is refused with
     /// 14 (missing block) exactly where one that is data has no frame; the slice then holds any bytes.
+    ///
+    /// The server reads block by block and doesn't call it. It is for callers that want a range or nothing.
     pub fn read_cached(&self, first: u64, into: &mut [[u8; 4096]]) -> Result<(), Missing>
         requires range { first + length into.old ≤ length self.now.states }
         ensures ok { OnOk result ((k : ℕ) (d : List ℕ) → k < length into.new → bytes_seen self.now (first + k) ≡ Some (slice_index_or into.new k d)) }

@@ -69,8 +69,8 @@ impl CachedBlocks {
         self.frames.get(&block).copied()
     }
 
-    // Frees a frame, and lets go of its block.
-    fn let_go(&mut self, frame: u32)
+    // Frees a frame; its block is in memory no longer.
+    fn free_frame(&mut self, frame: u32)
         requires { 1 ≤ held_times frame self.old.pool }
         ensures pool { self.new.pool ≡ with_free frame self.old.pool }
         ensures blocks { self.new.blocks ≡ self.old.blocks }
@@ -236,7 +236,7 @@ impl CachedBlocks {
         ensures held { IsHeld self.new }
     {
         match self.frame_of(block) {
-            Some(frame) => self.let_go(frame),
+            Some(frame) => self.free_frame(frame),
             None => {}
         }
     }

@@ -46,8 +46,8 @@ impl<B: ImageName> SealedGroup<B> {
         &self.group
     }
 
-    /// Lets the group go: nobody will store it.
-    pub fn let_go(self) {
+    /// Discards the group: nobody will store it.
+    pub fn discard(self) {
         let SealedGroup { group, told: _ } = self;
         let _parts = group.into_parts();
     }

@@ -86,14 +86,6 @@ impl<B: ImageName, D: Disk> SharedKeeper<B, D> {
         &self.keeper
     }
 
-    /// The keeper, as it is.
-    pub fn into_keeper(self) -> Keeper<D>
-        ensures { result ≡ self.keeper }
-    {
-        let SharedKeeper { seat: _, keeper } = self;
-        keeper
-    }
-
     /// The keeper, as it is, and its seat.
     pub(crate) fn into_parts(self) -> (Keeper<D>, KeeperSeat<B>)
         ensures keeper { result.0 ≡ self.keeper }

@@ -180,11 +180,11 @@ IsHeld_indexed pool blocks spare lookup is = record {
 }
 
 -- what each call leaves of the look-up
-pub indexed-let_go : (pool pool' : PoolState) (blocks : List ℕ) (lookup lookup' : ℕ → Option ℕ) (frame read : ℕ)
+pub indexed-free_frame : (pool pool' : PoolState) (blocks : List ℕ) (lookup lookup' : ℕ → Option ℕ) (frame read : ℕ)
     → IsIndexed pool blocks lookup → pool' ≡ with_free frame pool → IsPool pool' → 1 ≤ held_times frame pool
     → read ≡ get_or blocks frame read → ((q : ℕ) → lookup' q ≡ (if eqb q read then None else lookup q))
     → IsIndexed pool' blocks lookup'
-indexed-let_go pool pool' blocks lookup lookup' frame read is moved kept held was found =
+indexed-free_frame pool pool' blocks lookup lookup' frame read is moved kept held was found =
     let below : frame < length blocks = omega (arith, frame_below frame pool is.pool_kept (omega (arith, held)), is.size) in
     let e : read ≡ block_at blocks frame = was ∙ get_or_default blocks frame read 0 below in
     IsIndexed-unset pool pool' blocks lookup lookup' frame is kept (rw moved refl) held (rw moved (held_times-free_same frame pool))
@@ -284,7 +284,7 @@ pub indexed-evict : (pool pool' : PoolState) (blocks : List ℕ) (lookup lookup'
     → read ≡ get_or blocks frame read → ((q : ℕ) → lookup' q ≡ (if eqb q read then None else lookup q))
     → IsIndexed pool' blocks lookup'
 indexed-evict pool pool' blocks lookup lookup' frame read is front moved kept was found =
-    indexed-let_go pool pool' blocks lookup lookup' frame read is moved kept (omega (arith, front_times frame pool.clean front)) was found
+    indexed-free_frame pool pool' blocks lookup lookup' frame read is moved kept (omega (arith, front_times frame pool.clean front)) was found
 
 -- A frame that is freed is free, and holds no more than before.
 pub free_now : (frame : ℕ) (pool pool' : PoolState) → pool' ≡ with_free frame pool → 1 ≤ times frame pool'.free

@@ -189,11 +189,11 @@ blocks-fill held left new frame block bytes missing is free leaves p b =
     ∙ blocks_of-assign_clean left frame block bytes is free
     ∙ fill_taken block bytes (blocks_of held.pool held.blocks) (blocks_of left.pool left.blocks) (is_cached-missing block held missing) leaves
 
-pub blocks-let_go : (held new : CachedState) (frame block : ℕ) → IsHeld held
+pub blocks-free_frame : (held new : CachedState) (frame block : ℕ) → IsHeld held
     → (1 ≤ held_times frame held.pool) × (block_at held.blocks frame ≡ block)
     → new.pool ≡ with_free frame held.pool → new.blocks ≡ held.blocks
     → (blocks_of new.pool new.blocks ≡ without (λ b. b == block) (blocks_of held.pool held.blocks)) × IsMissing block new
-blocks-let_go held new frame block is found p b = (
+blocks-free_frame held new frame block is found p b = (
   ap (λ (pool : PoolState). blocks_of pool new.blocks) p
       ∙ ap (λ (blocks : List ℕ). blocks_of (with_free frame held.pool) blocks) b
       ∙ blocks_of-free held frame is found.0
