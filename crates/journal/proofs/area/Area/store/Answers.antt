@@ -41,7 +41,7 @@ begins_with held begun new same begins = subst (λ (list : List TouchedRange). t
 begins_itself : (list : List TouchedRange) → take (length list) list ≡ list
 begins_itself list = take_all (length list) list (omega arith)
 
-pub returns-in_err-check_group : goal.returns-in_err-check
+pub returns-in_err-check_group : goal.returns-in_err-check_group
 returns-in_err-check_group g c = record {
   noted = IfOk-from_err c.from_residual.result _ c.from_residual.ensures.0;
   same = refl;
