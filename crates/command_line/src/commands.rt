@@ -267,7 +267,7 @@ pub static FORMAT: SubcommandRow<'static> = SubcommandRow {
             name: "area",
             form: Form::Text("BYTES"),
             tie: Tie::None,
-            help: "Size of one journal area in layout 1, of two in layout 2: a multiple of 8192, 2M to 1G; 64M if only --size is given",
+            help: "Size of a journal area (layout 1) or of two (layout 2): a multiple of 8192, 2M to 1G; 64M if only --size is given",
         },
         ArgumentRow {
             name: "layout",
@@ -367,7 +367,7 @@ pub static SERVE: SubcommandRow<'static> = SubcommandRow {
             name: "loss-seconds",
             form: Form::TextOr("SECONDS", "0"),
             tie: Tie::None,
-            help: "A write waits while an older one has been pending for more seconds: 0.001 to 86400, as 0.5, or 0 for no limit",
+            help: "A write waits while an older one has been pending longer than this: 0.001 to 86400, as 0.5, or 0 for no limit",
         },
         ArgumentRow {
             name: "export-name",

@@ -3,7 +3,7 @@ ghost use Rattle.std.specs.Prelude.{◌≡◌, IfSome, vec_len};
 
 use std::alloc::Global;
 
-/// A READ of fewer bytes takes room of its own.
+/// A READ of fewer bytes takes a buffer of its own.
 pub(crate) const LEAST_KEPT: usize = 65_536;
 
 /// The most buffers that are kept, of 1 MiB each.
@@ -24,18 +24,18 @@ impl BufferPool {
 
     /// Room of this many bytes, whatever they are; None if there is none.
     pub(crate) fn take(&mut self, length: usize) -> Option<Vec<u8>>
-        ensures { IfSome result (λ room. vec_len room ≡ length) }
+        ensures { IfSome result (λ buffer. vec_len buffer ≡ length) }
     {
-        let mut room = self.free.pop()?;
-        room.resize(length, 0).ok()?;
-        Some(room)
+        let mut buffer = self.free.pop()?;
+        buffer.resize(length, 0).ok()?;
+        Some(buffer)
     }
 
-    /// Takes room back; where enough is kept, or memory is refused, it is let go.
-    pub(crate) fn put(&mut self, room: Vec<u8>) {
+    /// Takes a buffer back. It is freed if enough are kept, or if memory is refused.
+    pub(crate) fn put(&mut self, buffer: Vec<u8>) {
         if self.free.len() < MOST_KEPT {
-            // (Where this fails the room is let go.)
-            let _ = self.free.push(room);
+            // (If this fails the buffer is freed.)
+            let _ = self.free.push(buffer);
         }
     }
 }

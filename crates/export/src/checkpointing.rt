@@ -51,8 +51,8 @@ impl Progress {
         self.blocks = 0;
     }
 
-    // The first area is let go, and this many still wait.
-    fn let_go<R: Clock, G: SyncPoints>(&mut self, rt: &R, points: &mut G, waiting: u8) {
+    // The first area is copied, and this many still wait.
+    fn end_area<R: Clock, G: SyncPoints>(&mut self, rt: &R, points: &mut G, waiting: u8) {
         if let Some(took) = time_since(rt, self.began) {
             points.reach(Point::Copied {
                 blocks: self.blocks,
@@ -131,7 +131,7 @@ impl<B: ExportName, D: Disk, H: ReadUnlocked, T: Trust> Export<B, D, H, T> {
             StepOutcome::Copied(CopyStep::Blocks(more)) => {
                 progress.blocks = progress.blocks.saturating_add(more);
             }
-            StepOutcome::Copied(CopyStep::LetGo { waiting }) => progress.let_go(
+            StepOutcome::Copied(CopyStep::AreaEnded { waiting }) => progress.end_area(
                 rt, points, waiting,
             ),
             StepOutcome::Idle => progress.is_copying = false,
@@ -157,7 +157,7 @@ impl<B: ExportName, D: Disk, H: ReadUnlocked, T: Trust> Export<B, D, H, T> {
         }
         let mut queue = self.queue.lock(rt);
         queue.set_cannot_copy(true);
-        self.signals.settled.notify_all();
+        self.signals.progress.notify_all();
         !(queue.is_flushed() && (queue.is_stopped() || retries.is_hopeless()))
     }
 
@@ -181,7 +181,7 @@ impl<B: ExportName, D: Disk, H: ReadUnlocked, T: Trust> Export<B, D, H, T> {
                 Err(KeeperFault::NotNow) => {
                     // Nothing was stored since the last one.
                     self.queue.lock(rt).clear_checkpoint_request();
-                    self.signals.settled.notify_all();
+                    self.signals.progress.notify_all();
                     return StepOutcome::Idle;
                 }
                 Err(fault) => return self.refused(rt, fault),
@@ -197,12 +197,12 @@ impl<B: ExportName, D: Disk, H: ReadUnlocked, T: Trust> Export<B, D, H, T> {
             Ok(step) => step,
             Err(fault) => return self.refused(rt, fault),
         };
-        if let CopyStep::LetGo { waiting: _ } = step {
+        if let CopyStep::AreaEnded { waiting: _ } = step {
             let mut queue = self.queue.lock(rt);
             engine.clean(&mut queue, &self.board);
             queue.note_journal(engine.journal_use());
             drop(queue);
-            self.signals.settled.notify_all();
+            self.signals.progress.notify_all();
             self.signals.notify(true, true);
         }
         StepOutcome::Copied(step)

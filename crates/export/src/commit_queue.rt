@@ -20,7 +20,7 @@ use crate::figures::{Notes, QueueFigures};
 use crate::gathering::Waiters;
 use crate::name::ExportName;
 use crate::second_handle::ReadUnlocked;
-use crate::settling::FlushInterval;
+use crate::storing::FlushInterval;
 use crate::storage_engine::{JournalUse, StorageEngine};
 use crate::throttling::{Throttle, eighths_above};
 use checkpoint::Keeper;
@@ -54,14 +54,14 @@ pub(crate) struct Planned {
     /// The blocks.
     pub span: Span,
     /// The base that the order had noted when they were found missing.
-    pub settled: NotedBase,
+    pub noted_base: NotedBase,
 }
 
 /// The order of an export, and what its threads ask of one another.
 pub(crate) struct CommitQueue<B: ExportName> {
     order: SharedOrder<B>,
     // The base that the order has noted: the number up to which the frames of written blocks were let go.
-    pub(crate) settled: NotedBase,
+    pub(crate) noted_base: NotedBase,
     // The frames for blocks.
     frames: u32,
     // The passes that haven't left.
@@ -93,14 +93,14 @@ pub(crate) struct CommitQueue<B: ExportName> {
     // What is told of all this.
     notes: Notes,
     ghost blocks: { length order.cache.states ≡ B.geometry.blocks },
-    ghost noted: { settled.number ≡ order.base },
+    ghost noted: { noted_base.number ≡ order.base },
 }
 
 impl<B: ExportName> Drop for CommitQueue<B> {
     fn drop(self) {
         let CommitQueue {
             order: _,
-            settled: _,
+            noted_base: _,
             frames: _,
             passes: _,
             wanted: _,
@@ -154,18 +154,18 @@ impl<B: ExportName> CommitQueue<B> {
         order: SharedOrder<B>,
         frames: u32,
         passes: usize,
-        settled: u64,
+        noted_base: u64,
         journal: JournalUse,
     ) -> CommitQueue<B>
         requires blocks { length order.cache.states ≡ B.geometry.blocks }
-        requires noted { settled ≡ order.base }
+        requires noted { noted_base ≡ order.base }
         ensures order { result.order ≡ order }
-        ensures settled { result.settled.number ≡ settled }
+        ensures noted_base { result.noted_base.number ≡ noted_base }
         ensures limit { result.most_pending ≡ 18446744073709551615 }
     {
         CommitQueue {
             order,
-            settled: NotedBase { number: settled },
+            noted_base: NotedBase { number: noted_base },
             frames,
             passes,
             wanted: 0,
@@ -198,7 +198,7 @@ impl<B: ExportName> CommitQueue<B> {
         ensures served { IfOk result (λ served. IsServedAs T.logs T.trusted T.image B.opening B.image B.vouches B.trusted request terms pass.old pass.new served) }
         ensures handed_back { IfErr result (λ back. back.0 ≡ request) }
         ensures unchanged { OnErr result (pass.new ≡ pass.old) }
-        ensures settled { self.new.settled ≡ self.old.settled }
+        ensures noted_base { self.new.noted_base ≡ self.old.noted_base }
 
         // Once a command was accepted, no more bytes are pending than may be, its own included.
         ensures bounded { self.old.order.mark < self.new.order.mark → sum self.new.order.bodies ≤ self.old.most_pending }
@@ -216,18 +216,18 @@ impl<B: ExportName> CommitQueue<B> {
     pub(crate) fn plan(&self, request: &Request, terms: &Terms) -> Option<Planned>
         requires { terms.now.geometry ≡ B.geometry }
         ensures planned { IfSome result (λ planned. IsPlanned request.now.head terms.now.geometry terms.now.flags planned.span) }
-        ensures settled { IfSome result (λ planned. planned.settled ≡ self.now.settled) }
+        ensures noted_base { IfSome result (λ planned. planned.noted_base ≡ self.now.noted_base) }
     {
         let span = plan_read(&request.head(), self.order.order(), terms)?;
         Some(Planned {
             span,
-            settled: self.settled,
+            noted_base: self.noted_base,
         })
     }
 
     /// The blocks of which a write command takes old bytes from the device.
     pub(crate) fn missing_edges(&self, head: &RequestHead) -> MissingEdges {
-        MissingEdges::new(head, self.order.order(), self.settled)
+        MissingEdges::new(head, self.order.order(), self.noted_base)
     }
 
     /// Serves a READ with bytes of the device that were read without locks. They come back if the blocks may have other bytes now, or
@@ -251,16 +251,16 @@ impl<B: ExportName> CommitQueue<B> {
         requires may { MayServe T.logs T.trusted T.mode T.image B.opening B.image B.vouches B.trusted B.geometry request.now terms.now pass.old.client }
         requires planned { IsPlanned request.now.head terms.now.geometry terms.now.flags planned.span }
         requires vouched { (read : SpanRead) → H.vouches handle.now read → ∥ B.vouches read ∥₁ }
-        requires given { H.gives handle.now (base_of planned.settled) (block_at terms.now.geometry planned.span.first)
+        requires given { H.gives handle.now (base_of planned.noted_base) (block_at terms.now.geometry planned.span.first)
             (slice_range bytes.items (4096 * (planned.span.first - request.now.head.offset / 4096)) (4096 * (planned.span.end - request.now.head.offset / 4096))) }
         requires size { vec_len bytes ≡ 4096 * blocks_met request.now.head.offset request.now.head.length }
         ensures served { IfOk result (λ served. IsServedAs T.logs T.trusted T.image B.opening B.image B.vouches B.trusted request.now terms.now pass.old pass.new served) }
         ensures size { IfErr result (λ back. vec_len back ≡ 4096 * blocks_met request.now.head.offset request.now.head.length) }
-        ensures settled { self.new.settled ≡ self.old.settled }
+        ensures noted_base { self.new.noted_base ≡ self.old.noted_base }
         ensures over { IfOk result (λ served. IsReadOverServed request.now.head planned.span bytes.items self.old.order self.new.order served) }
 
         // Nothing is served of bytes that were read before frames were let go.
-        ensures let_go { planned.settled.number ≢ self.old.settled.number → IsErr result }
+        ensures other_base { planned.noted_base.number ≢ self.old.noted_base.number → IsErr result }
 
         // Where the bytes come back order and pass are as they were, and the rest of the queue is always.
         ensures unchanged { OnErr result ((self.new.order ≡ self.old.order) × (pass.new ≡ pass.old)) }
@@ -269,7 +269,7 @@ impl<B: ExportName> CommitQueue<B> {
             × (self.new.wish ≡ self.old.wish) × (self.new.is_flushed ≡ self.old.is_flushed) × (self.new.cannot_store ≡ self.old.cannot_store) × (self.new.cannot_copy ≡ self.old.cannot_copy) × (self.new.most_pending ≡ self.old.most_pending) × (self.new.interval ≡ self.old.interval)
             × (self.new.throttle ≡ self.old.throttle) × (self.new.notes ≡ self.old.notes) }
     {
-        if planned.settled.number != self.settled.number {
+        if planned.noted_base.number != self.noted_base.number {
             return Err(bytes);
         }
         let head = request.head();
@@ -278,7 +278,7 @@ impl<B: ExportName> CommitQueue<B> {
             Blocks::from_head(&head).first,
             planned.span,
             &bytes,
-            planned.settled,
+            planned.noted_base,
             self.order.order(),
         );
         if !is_vouched {
@@ -306,7 +306,7 @@ impl<B: ExportName> CommitQueue<B> {
         ensures served { IsServedAs T.logs T.trusted T.image B.opening B.image B.vouches B.trusted request terms pass.old pass.new result }
         ensures geometry { keeper.new.keeper.geometry ≡ keeper.old.keeper.geometry }
         ensures count { keeper.new.keeper.count ≡ keeper.old.keeper.count }
-        ensures settled { self.new.settled ≡ self.old.settled }
+        ensures noted_base { self.new.noted_base ≡ self.old.noted_base }
         ensures bounded { self.old.order.mark < self.new.order.mark → sum self.new.order.bodies ≤ self.old.most_pending }
         ensures limit { self.new.most_pending ≡ self.old.most_pending }
     {
@@ -345,7 +345,7 @@ impl<B: ExportName> CommitQueue<B> {
 
     /// Has no command accepted from now on that could leave more than `most` bytes pending.
     pub(crate) fn limit_pending(&mut self, most: u64)
-        ensures settled { self.new.settled ≡ self.old.settled }
+        ensures noted_base { self.new.noted_base ≡ self.old.noted_base }
         ensures order { self.new.order ≡ self.old.order }
         ensures limit { self.new.most_pending ≡ most }
     {
@@ -367,7 +367,7 @@ impl<B: ExportName> CommitQueue<B> {
 
     /// Refuses commands from now on.
     pub(crate) fn stop(&mut self)
-        ensures settled { self.new.settled ≡ self.old.settled }
+        ensures noted_base { self.new.noted_base ≡ self.old.noted_base }
         ensures limit { self.new.most_pending ≡ self.old.most_pending }
     {
         self.order.stop();
@@ -375,7 +375,7 @@ impl<B: ExportName> CommitQueue<B> {
 
     /// A pass has left.
     pub(crate) fn leave(&mut self)
-        ensures settled { self.new.settled ≡ self.old.settled }
+        ensures noted_base { self.new.noted_base ≡ self.old.noted_base }
         ensures limit { self.new.most_pending ≡ self.old.most_pending }
     {
         self.passes = self.passes.saturating_sub(1);
@@ -383,7 +383,7 @@ impl<B: ExportName> CommitQueue<B> {
 
     /// No group will be stored any more.
     pub(crate) fn end(&mut self)
-        ensures settled { self.new.settled ≡ self.old.settled }
+        ensures noted_base { self.new.noted_base ≡ self.old.noted_base }
         ensures limit { self.new.most_pending ≡ self.old.most_pending }
     {
         self.is_flushed = true;
@@ -391,7 +391,7 @@ impl<B: ExportName> CommitQueue<B> {
 
     /// The flusher is to store all up to a number.
     pub(crate) fn want(&mut self, number: u64)
-        ensures settled { self.new.settled ≡ self.old.settled }
+        ensures noted_base { self.new.noted_base ≡ self.old.noted_base }
         ensures order { self.new.order ≡ self.old.order }
         ensures limit { self.new.most_pending ≡ self.old.most_pending }
     {
@@ -401,7 +401,7 @@ impl<B: ExportName> CommitQueue<B> {
 
     /// Somebody begins to wait until a number is durable, which it isn't.
     pub(crate) fn begin_wait(&mut self, number: u64)
-        ensures settled { self.new.settled ≡ self.old.settled }
+        ensures noted_base { self.new.noted_base ≡ self.old.noted_base }
         ensures limit { self.new.most_pending ≡ self.old.most_pending }
     {
         let is_sealed = number <= self.order.order().sealed();
@@ -416,7 +416,7 @@ impl<B: ExportName> CommitQueue<B> {
 
     /// Whether the thread that waits is to store the next group itself: it waits alone, nobody stores a group, and nothing else calls
     /// the flusher. If several wait the flusher stores one group after another without a thread to be woken between two.
-    pub(crate) fn may_lead(&self) -> bool {
+    pub(crate) fn may_store_itself(&self) -> bool {
         self.is_group_due() && !self.needs_flusher()
     }
 
@@ -432,7 +432,7 @@ impl<B: ExportName> CommitQueue<B> {
 
     /// The flusher is to store the next group.
     pub(crate) fn call_flusher(&mut self)
-        ensures settled { self.new.settled ≡ self.old.settled }
+        ensures noted_base { self.new.noted_base ≡ self.old.noted_base }
         ensures limit { self.new.most_pending ≡ self.old.most_pending }
     {
         self.calls_flusher = true;
@@ -448,7 +448,7 @@ impl<B: ExportName> CommitQueue<B> {
 
     /// A command has no room.
     pub(crate) fn note_no_room(&mut self)
-        ensures settled { self.new.settled ≡ self.old.settled }
+        ensures noted_base { self.new.noted_base ≡ self.old.noted_base }
         ensures limit { self.new.most_pending ≡ self.old.most_pending }
     {
         self.lacks_room = true;
@@ -457,7 +457,7 @@ impl<B: ExportName> CommitQueue<B> {
 
     /// Wants a checkpoint, which frees what is accepted by now.
     pub(crate) fn request_checkpoint(&mut self)
-        ensures settled { self.new.settled ≡ self.old.settled }
+        ensures noted_base { self.new.noted_base ≡ self.old.noted_base }
         ensures order { self.new.order ≡ self.old.order }
         ensures limit { self.new.most_pending ≡ self.old.most_pending }
     {
@@ -471,7 +471,7 @@ impl<B: ExportName> CommitQueue<B> {
     /// Wants a checkpoint if a quarter of the frames is dirty; whether it is wanted from now on. If no area waits to be copied, these
     /// were dirtied since one was last taken into use; if one does, no other comes into use because of it.
     pub(crate) fn check_dirty_frames(&mut self) -> bool
-        ensures settled { self.new.settled ≡ self.old.settled }
+        ensures noted_base { self.new.noted_base ≡ self.old.noted_base }
         ensures limit { self.new.most_pending ≡ self.old.most_pending }
     {
         if self.wish.is_some() || !self.has_dirtied_many() {
@@ -488,7 +488,7 @@ impl<B: ExportName> CommitQueue<B> {
 
     /// How many microseconds a client waits that has written this many blocks.
     pub(crate) fn throttle(&mut self, blocks: u64) -> u64
-        ensures settled { self.new.settled ≡ self.old.settled }
+        ensures noted_base { self.new.noted_base ≡ self.old.noted_base }
         ensures limit { self.new.most_pending ≡ self.old.most_pending }
     {
         let dirty = self.order.order().dirty_blocks() as u64;
@@ -496,7 +496,7 @@ impl<B: ExportName> CommitQueue<B> {
     }
 
     /// Whether clients that write are to be slowed down.
-    pub(crate) fn is_tight(&self) -> bool {
+    pub(crate) fn slows_writers(&self) -> bool {
         eighths_above(self.order.order().dirty_blocks() as u64, self.frames as u64) > 0
     }
 
@@ -508,8 +508,8 @@ impl<B: ExportName> CommitQueue<B> {
 
     /// What there is to do once a request was served: for the flusher, where much is pending or it counts the time
     /// from now on, and for the checkpointer, where a checkpoint is wanted since now.
-    pub(crate) fn next_work(&mut self) -> (bool, bool)
-        ensures settled { self.new.settled ≡ self.old.settled }
+    pub(crate) fn whom_to_wake(&mut self) -> (bool, bool)
+        ensures noted_base { self.new.noted_base ≡ self.old.noted_base }
         ensures limit { self.new.most_pending ≡ self.old.most_pending }
     {
         let is_due = self.check_dirty_frames();
@@ -524,7 +524,7 @@ impl<B: ExportName> CommitQueue<B> {
 
     /// Has what is pending by now stored.
     pub(crate) fn want_pending(&mut self)
-        ensures settled { self.new.settled ≡ self.old.settled }
+        ensures noted_base { self.new.noted_base ≡ self.old.noted_base }
         ensures limit { self.new.most_pending ≡ self.old.most_pending }
     {
         let mark = self.order.order().mark();
@@ -570,7 +570,7 @@ impl<B: ExportName> CommitQueue<B> {
 
     /// Whether memory has been refused to the flusher for so long that nobody is to wait for a group.
     pub(crate) fn set_cannot_store(&mut self, cannot: bool)
-        ensures settled { self.new.settled ≡ self.old.settled }
+        ensures noted_base { self.new.noted_base ≡ self.old.noted_base }
         ensures limit { self.new.most_pending ≡ self.old.most_pending }
     {
         self.cannot_store = cannot;
@@ -578,7 +578,7 @@ impl<B: ExportName> CommitQueue<B> {
 
     /// The same of the checkpointer, and of room.
     pub(crate) fn set_cannot_copy(&mut self, cannot: bool)
-        ensures settled { self.new.settled ≡ self.old.settled }
+        ensures noted_base { self.new.noted_base ≡ self.old.noted_base }
         ensures limit { self.new.most_pending ≡ self.old.most_pending }
     {
         self.cannot_copy = cannot;
@@ -601,7 +601,7 @@ impl<B: ExportName> CommitQueue<B> {
 
     /// A command was accepted after this moment.
     pub(crate) fn note_pending(&mut self, began: Instant)
-        ensures settled { self.new.settled ≡ self.old.settled }
+        ensures noted_base { self.new.noted_base ≡ self.old.noted_base }
         ensures limit { self.new.most_pending ≡ self.old.most_pending }
     {
         if self.is_pending() {
@@ -611,7 +611,7 @@ impl<B: ExportName> CommitQueue<B> {
 
     /// How much of the journal is used now.
     pub(crate) fn note_journal(&mut self, journal: JournalUse)
-        ensures settled { self.new.settled ≡ self.old.settled }
+        ensures noted_base { self.new.noted_base ≡ self.old.noted_base }
         ensures order { self.new.order ≡ self.old.order }
         ensures limit { self.new.most_pending ≡ self.old.most_pending }
     {
@@ -629,7 +629,7 @@ impl<B: ExportName> CommitQueue<B> {
         let dirty = u64::from(order.dirty_blocks());
         let held = order.cached_blocks() as u64;
         QueueFigures {
-            base: self.settled.number,
+            base: self.noted_base.number,
             pending_commands: order.mark().saturating_sub(order.durable()),
             pending_bytes: order.backlog_bytes(),
             oldest: self.notes.oldest(),
@@ -646,7 +646,7 @@ impl<B: ExportName> CommitQueue<B> {
         board: &Board<B, T>,
         now: Option<Instant>,
     ) -> Result<Option<SealedGroup<B>>, OrderFault>
-        ensures settled { self.new.settled ≡ self.old.settled }
+        ensures noted_base { self.new.noted_base ≡ self.old.noted_base }
         ensures limit { self.new.most_pending ≡ self.old.most_pending }
     {
         let sealed = self.order.seal(board)?;
@@ -663,7 +663,7 @@ impl<B: ExportName> CommitQueue<B> {
 
     /// Makes a group pending again, which the flusher is to store.
     pub(crate) fn put_back<T: Trust>(&mut self, board: &Board<B, T>, sealed: SealedGroup<B>)
-        ensures settled { self.new.settled ≡ self.old.settled }
+        ensures noted_base { self.new.noted_base ≡ self.old.noted_base }
         ensures limit { self.new.most_pending ≡ self.old.most_pending }
     {
         self.waiters.put_back();
@@ -677,7 +677,7 @@ impl<B: ExportName> CommitQueue<B> {
 
     /// Makes a group pending again, which the area had no room for, and wants a checkpoint.
     pub(crate) fn take_back<T: Trust>(&mut self, board: &Board<B, T>, sealed: SealedGroup<B>)
-        ensures settled { self.new.settled ≡ self.old.settled }
+        ensures noted_base { self.new.noted_base ≡ self.old.noted_base }
         ensures limit { self.new.most_pending ≡ self.old.most_pending }
     {
         self.put_back(board, sealed);
@@ -692,7 +692,7 @@ impl<B: ExportName> CommitQueue<B> {
 
     /// Another area has been taken into use.
     pub(crate) fn note_next_area(&mut self)
-        ensures settled { self.new.settled ≡ self.old.settled }
+        ensures noted_base { self.new.noted_base ≡ self.old.noted_base }
         ensures limit { self.new.most_pending ≡ self.old.most_pending }
     {
         self.is_full = false;
@@ -704,7 +704,7 @@ impl<B: ExportName> CommitQueue<B> {
         board: &Board<B, T>,
         engine: &mut StorageEngine<B, D>,
     ) -> bool
-        ensures settled { self.new.settled ≡ self.old.settled }
+        ensures noted_base { self.new.noted_base ≡ self.old.noted_base }
         ensures limit { self.new.most_pending ≡ self.old.most_pending }
     {
         engine.publish(board, &mut self.order);
@@ -754,7 +754,7 @@ impl<B: ExportName> CommitQueue<B> {
     {
         let CommitQueue {
             order,
-            settled: _,
+            noted_base: _,
             frames: _,
             passes: _,
             wanted: _,
@@ -782,13 +782,13 @@ impl<B: ExportName> CommitQueue<B> {
         board: &Board<B, T>,
         keeper: &mut SharedKeeper<B, D>,
     )
-        ensures settled { self.new.settled.number ≡ keeper.old.keeper.base }
+        ensures noted_base { self.new.noted_base.number ≡ keeper.old.keeper.base }
         ensures order { self.new.order ≡ with_clean (record self.old.order { base = max self.old.order.base keeper.old.keeper.base }) keeper.old.keeper.base }
         ensures keeper { keeper.new.keeper ≡ keeper.old.keeper }
         ensures limit { self.new.most_pending ≡ self.old.most_pending }
     {
         self.order.clean(board, keeper);
-        self.settled = NotedBase {
+        self.noted_base = NotedBase {
             number: keeper.keeper().base(),
         };
         self.clear_checkpoint_request();
@@ -796,7 +796,7 @@ impl<B: ExportName> CommitQueue<B> {
 
     /// The checkpoint that was wanted is done.
     pub(crate) fn clear_checkpoint_request(&mut self)
-        ensures settled { self.new.settled ≡ self.old.settled }
+        ensures noted_base { self.new.noted_base ≡ self.old.noted_base }
         ensures order { self.new.order ≡ self.old.order }
         ensures limit { self.new.most_pending ≡ self.old.most_pending }
     {

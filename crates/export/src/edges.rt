@@ -12,14 +12,14 @@ pub(crate) struct MissingEdges {
     pub first: Option<u64>,
     pub last: Option<u64>,
     /// The base that the order had noted then.
-    pub settled: NotedBase,
+    pub noted_base: NotedBase,
 }
 
 impl MissingEdges {
     pub(crate) fn new<B: BoardName>(
         head: &RequestHead,
         order: &Order<B>,
-        settled: NotedBase,
+        noted_base: NotedBase,
     ) -> MissingEdges {
         let end = head.offset.saturating_add(u64::from(head.length));
         let first = missing_at(order, head.offset);
@@ -27,7 +27,7 @@ impl MissingEdges {
         MissingEdges {
             first,
             last: if last == first { None } else { last },
-            settled,
+            noted_base,
         }
     }
 }

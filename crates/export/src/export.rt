@@ -174,7 +174,7 @@ impl<B: ExportName, D: Disk, H: ReadUnlocked, T: Trust> Export<B, D, H, T> {
         } = device;
         match open_parts::<B, D, T>(alloc, blank, &keeper, frames, workers) {
             Ok((board, seat, order, passes, last)) => {
-                let (settled, geometry) = (keeper.base(), keeper.geometry());
+                let (noted_base, geometry) = (keeper.base(), keeper.geometry());
                 let engine = StorageEngine::new(SharedKeeper::new(keeper, seat));
                 let journal = engine.journal_use();
                 let log = LogMode::new(mode);
@@ -185,7 +185,7 @@ impl<B: ExportName, D: Disk, H: ReadUnlocked, T: Trust> Export<B, D, H, T> {
                     mode,
                     log,
                     engine: Mutex::new(engine),
-                    queue: Mutex::new(CommitQueue::new(order, frames, workers, settled, journal)),
+                    queue: Mutex::new(CommitQueue::new(order, frames, workers, noted_base, journal)),
                     second_handle,
                     buffers: Mutex::new(BufferPool::new(alloc)),
                     signals: Signals::new(),

@@ -102,7 +102,7 @@ impl<B: ExportName, D: Disk, H: ReadUnlocked, T: Trust> Export<B, D, H, T> {
     fn gives_up<R: Wait>(&self, rt: &R, retries: &Retries) -> bool {
         let mut queue = self.queue.lock(rt);
         queue.set_cannot_store(true);
-        self.signals.settled.notify_all();
+        self.signals.progress.notify_all();
         queue.is_stopped() || (queue.is_left() && retries.is_hopeless())
     }
 
@@ -149,7 +149,7 @@ impl<B: ExportName, D: Disk, H: ReadUnlocked, T: Trust> Export<B, D, H, T> {
 
     /// The next group, if the thread that asks is to store it: it waits itself for what is pending. None leaves that to the flusher, if
     /// nobody stores a group.
-    pub(crate) fn lead<R: Wait + Clock>(
+    pub(crate) fn seal_own_group<R: Wait + Clock>(
         &self,
         rt: &R,
         queue: &mut CommitQueue<B>,
@@ -157,7 +157,7 @@ impl<B: ExportName, D: Disk, H: ReadUnlocked, T: Trust> Export<B, D, H, T> {
         if queue.is_storing() {
             return None;
         }
-        if queue.may_lead() {
+        if queue.may_store_itself() {
             match queue.seal(&self.board, Instant::now(rt).ok()) {
                 Ok(Some(group)) => return Some(group),
                 Ok(None) | Err(_) => {}
@@ -169,7 +169,7 @@ impl<B: ExportName, D: Disk, H: ReadUnlocked, T: Trust> Export<B, D, H, T> {
     }
 
     /// Stores a group that a waiting thread has sealed. If memory is refused the flusher tries again.
-    pub(crate) fn store_led<R: Wait + Clock, G: SyncPoints>(
+    pub(crate) fn store_own_group<R: Wait + Clock, G: SyncPoints>(
         &self,
         rt: &R,
         points: &mut G,
@@ -222,7 +222,7 @@ impl<B: ExportName, D: Disk, H: ReadUnlocked, T: Trust> Export<B, D, H, T> {
         let wanted = queue.publish(&self.board, engine);
         let is_due = queue.needs_flusher();
         drop(queue);
-        self.signals.settled.notify_all();
+        self.signals.progress.notify_all();
         self.signals.notify(is_due, wanted);
     }
 

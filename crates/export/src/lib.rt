@@ -17,7 +17,7 @@ mod loss;
 mod name;
 mod retired;
 mod second_handle;
-mod settling;
+mod storing;
 mod shortage;
 mod signals;
 mod storage_engine;

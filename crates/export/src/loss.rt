@@ -25,7 +25,7 @@ impl<B: ExportName, D: Disk, H: ReadUnlocked, T: Trust> Export<B, D, H, T> {
             }
             queue.want_pending();
             self.signals.work.notify_one();
-            queue = self.signals.settled.wait(rt, queue);
+            queue = self.signals.progress.wait(rt, queue);
         }
         unreachable!()
     }

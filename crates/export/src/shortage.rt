@@ -9,10 +9,10 @@ const LEAST_WAIT: u64 = 10;
 
 const MOST_WAIT: u64 = 1_000;
 
-/// The milliseconds after which no client waits for the step any more.
+/// The milliseconds of such waits after which no request waits for the step any more.
 const PATIENCE: u64 = 1_000;
 
-/// The milliseconds after which it isn't tried again, once all clients have left.
+/// The milliseconds of such waits after which a server that ends gives the step up.
 const LAST_PATIENCE: u64 = 10_000;
 
 /// For how long a step has been refused memory, again and again.
@@ -35,17 +35,17 @@ impl Retries {
         self.waited == 0
     }
 
-    /// Whether no client is to wait for the step any more.
+    /// Whether no request is to wait for the step any more.
     pub(crate) fn is_long(&self) -> bool {
         self.waited >= PATIENCE
     }
 
-    /// Whether the step isn't to be taken again, once all clients have left.
+    /// Whether a server that ends gives the step up.
     pub(crate) fn is_hopeless(&self) -> bool {
         self.waited >= LAST_PATIENCE
     }
 
-    /// Waits before the step is taken again, which is done with no lock held: others may let memory go meanwhile.
+    /// Waits before the step is taken again. No lock is held meanwhile, so others may free memory.
     pub(crate) fn wait<R: Clock>(&mut self, rt: &R) {
         let left = PATIENCE.saturating_sub(self.waited);
         let wait = if left == 0 {

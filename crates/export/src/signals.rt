@@ -6,13 +6,13 @@ use std::sync::{Condvar, Mutex};
 /// Where threads wait, and are told to look again.
 pub(crate) struct Signals {
     /// Told after each publish, after each clean and after the stop.
-    pub settled: Condvar,
+    pub progress: Condvar,
     /// Told where the flusher has work.
     pub work: Condvar,
     /// Told where the checkpointer has.
     pub checkpoint_due: Condvar,
     // Whether writers are to be slowed down. It saves them the order's lock if they aren't.
-    is_tight: AtomicBool,
+    slows_writers: AtomicBool,
     /// Held while a thread waits for the keeper's lock. A thread that lets that lock go and wants it again at once then comes after those
     /// that wait for it.
     pub turn: Mutex<()>,
@@ -21,10 +21,10 @@ pub(crate) struct Signals {
 impl Drop for Signals {
     fn drop(self) {
         let Signals {
-            settled: _,
+            progress: _,
             work: _,
             checkpoint_due: _,
-            is_tight: _,
+            slows_writers: _,
             turn: _,
         } = self;
     }
@@ -33,24 +33,24 @@ impl Drop for Signals {
 impl Signals {
     pub(crate) fn new() -> Signals {
         Signals {
-            settled: Condvar::new(),
+            progress: Condvar::new(),
             work: Condvar::new(),
             checkpoint_due: Condvar::new(),
-            is_tight: AtomicBool::new(false),
+            slows_writers: AtomicBool::new(false),
             turn: Mutex::new(()),
         }
     }
 
     /// Notes whether writers are to be slowed down.
-    pub(crate) fn note_tight(&self, is_tight: bool) {
-        if self.is_tight() != is_tight {
-            self.is_tight.store(is_tight, Ordering::SeqCst);
+    pub(crate) fn note_slows_writers(&self, slows_writers: bool) {
+        if self.slows_writers() != slows_writers {
+            self.slows_writers.store(slows_writers, Ordering::SeqCst);
         }
     }
 
     /// Whether writers are to be slowed down, as it was last noted.
-    pub(crate) fn is_tight(&self) -> bool {
-        self.is_tight.load(Ordering::SeqCst)
+    pub(crate) fn slows_writers(&self) -> bool {
+        self.slows_writers.load(Ordering::SeqCst)
     }
 
     /// Tells the flusher and the checkpointer to look for work.
@@ -65,7 +65,7 @@ impl Signals {
 
     /// Tells all threads to look again: a call of the device has failed.
     pub(crate) fn notify_all(&self) {
-        self.settled.notify_all();
+        self.progress.notify_all();
         self.work.notify_all();
         self.checkpoint_due.notify_all();
     }

@@ -44,7 +44,7 @@ pub(crate) enum CopyStep {
     /// It copied this many blocks.
     Blocks(u64),
     /// The first area was let go, and this many still wait.
-    LetGo { waiting: u8 },
+    AreaEnded { waiting: u8 },
 }
 
 /// What was stored as one group.
@@ -191,7 +191,7 @@ impl<B: ExportName, D: Disk> StorageEngine<B, D> {
                 self.shared.finish(board)?;
                 self.stage = Stage::Copy;
                 self.waiting = self.waiting.saturating_sub(1);
-                Ok(CopyStep::LetGo {
+                Ok(CopyStep::AreaEnded {
                     waiting: self.waiting,
                 })
             }
@@ -235,7 +235,7 @@ impl<B: ExportName, D: Disk> StorageEngine<B, D> {
 
     /// Lets the frames of a queue go whose blocks map and data hold.
     pub(crate) fn clean<T: Trust>(&mut self, queue: &mut CommitQueue<B>, board: &Board<B, T>)
-        ensures { queue.new.settled.number ≡ self.old.shared.keeper.base }
+        ensures { queue.new.noted_base.number ≡ self.old.shared.keeper.base }
     {
         queue.clean(board, &mut self.shared);
     }

@@ -38,8 +38,7 @@ use std::sync::Wait;
 const MOST_TRIES: u32 = 2;
 
 impl<B: ExportName, D: Disk, H: ReadUnlocked, T: Trust> Export<B, D, H, T> {
-    /// The answer to a FLUSH sent now: Done if all that was accepted by now is durable, and otherwise nothing. It waits for nobody and
-    /// takes no lock.
+    /// The answer to a FLUSH sent now: Done if all that was accepted by now is durable, otherwise None. It never waits and takes no lock.
     ///
     /// Only tests call it, because `submit` waits. Its contract shows what a FLUSH takes: two reads of the board.
     pub fn flush_now(&self, pass: &mut ClientPass<B>) -> Option<Answer>
@@ -59,7 +58,7 @@ impl<B: ExportName, D: Disk, H: ReadUnlocked, T: Trust> Export<B, D, H, T> {
         Some(Answer::Done)
     }
 
-    /// What a pass knows once it has looked at what was accepted, for another pass to learn.
+    /// What a pass knows after a look at what was accepted, for another pass to `learn`.
     pub fn tell(&self, pass: &mut ClientPass<B>) -> Told<B>
         ensures told { result ≡ record { history = pass.new.history; accepted = pass.new.accepted; durable = pass.new.durable } }
         ensures known { known pass.old ≤ pass.new.accepted }
@@ -69,7 +68,7 @@ impl<B: ExportName, D: Disk, H: ReadUnlocked, T: Trust> Export<B, D, H, T> {
         self.board.tell(&mut pass.pass)
     }
 
-    /// A pass learns what another one told: it then knows no less than both, and what both knew of the history begins what it knows.
+    /// A pass learns what another one told: both histories become prefixes of its own, and it keeps the greater numbers.
     pub fn learn(&self, pass: &mut ClientPass<B>, told: Told<B>)
         ensures knew { IsPrefix pass.old.history pass.new.history }
         ensures told { IsPrefix told.history pass.new.history }
@@ -80,9 +79,10 @@ impl<B: ExportName, D: Disk, H: ReadUnlocked, T: Trust> Export<B, D, H, T> {
 }
 
 impl<B: ExportName, D: Disk, H: ReadUnlocked, T: Trust> Export<B, D, H, T> {
-    /// Serves a request that isn't a DISC, for a pass, to its reply. It may wait: for room, and until what it says is durable.
+    /// Serves a request of a pass, except a DISC, and gives its reply. It may wait: for room, and until what the reply promises is
+    /// durable.
     ///
-    /// A request that the rules on requests refuse gets their error. Any other one gets EIO after a device fault, ENOMEM if memory is
+    /// A request that the validation rules refuse gets their error. Any other one gets EIO after a device fault, ENOMEM if memory is
     /// refused, ENOSPC if no number is left, or what was asked for. The contract doesn't say when each of these comes.
     ///
     /// If a read by the second handle fails, its request gets EIO, and nothing else changes. Requests that wait to be stored get EIO too
@@ -103,10 +103,10 @@ impl<B: ExportName, D: Disk, H: ReadUnlocked, T: Trust> Export<B, D, H, T> {
         ensures kind { IsAnswerTo flags.now request.head.kind result.answer }
         ensures judged { IsJudged (verdict request.head self.now.geometry flags.now) request result.answer }
 
-        // A READ and a BLOCK_STATUS show what the image of the opening is after the history that the pass then knows.
+        // A READ and a BLOCK_STATUS show the opening's image after the history that the pass then knows.
         ensures tells { Trusting B.opening B.image B.vouches B.trusted (TellsImage (apply_all pass.new.history B.image) request.head result.answer) }
 
-        // Its client has sent this request and was given this answer, and nothing else happened to it. Both are in the log, if the board
+        // What its client sent and was answered grows by this request and this answer alone. Both are in the log, if the board
         // keeps one.
         ensures by { pass.new.client.by ≡ pass.old.client.by }
         ensures calls { pass.new.client.mine ≡ pass.old.client.mine ++ Event.Sent pass.old.client.by request ∷ Event.Answered pass.old.client.by result.answer ∷ [] }
@@ -123,7 +123,7 @@ impl<B: ExportName, D: Disk, H: ReadUnlocked, T: Trust> Export<B, D, H, T> {
         Reply { cookie, answer }
     }
 
-    // Serves a request that its client has sent, to the answer that it may be given: again each time that there was no room for it.
+    // Serves a request that its client has sent until it has an answer. It tries again each time that there was no room.
     fn serve_to_end<R: Wait + Clock, G: SyncPoints>(
         &self,
         rt: &R,
@@ -146,22 +146,22 @@ impl<B: ExportName, D: Disk, H: ReadUnlocked, T: Trust> Export<B, D, H, T> {
         unreachable!()
     }
 
-    /// Takes back a reply that isn't needed any more, and uses its room for another READ.
+    /// Takes back a reply that isn't needed any more, and keeps its buffer for a READ.
     pub fn reuse<R: Wait>(&self, rt: &R, reply: Reply) {
         match reply.answer {
-            Answer::Bytes(read) => self.keep_room(rt, read.into_bytes()),
+            Answer::Bytes(read) => self.keep_buffer(rt, read.into_bytes()),
             _answer => {}
         }
     }
 
-    // Keeps the room for another READ if it is long.
-    fn keep_room<R: Wait>(&self, rt: &R, room: Vec<u8>) {
-        if room.len() >= LEAST_KEPT {
-            self.buffers.lock(rt).put(room);
+    // Keeps a long buffer for another READ.
+    fn keep_buffer<R: Wait>(&self, rt: &R, buffer: Vec<u8>) {
+        if buffer.len() >= LEAST_KEPT {
+            self.buffers.lock(rt).put(buffer);
         }
     }
 
-    // Serves a request under the order's lock alone, if it can. If there is no room for it, it waits for some.
+    // Tries to serve a request, under the order's lock alone if it can. Without room it waits for some, and gives the request back.
     fn serve_once<R: Wait>(
         &self,
         rt: &R,
@@ -184,10 +184,10 @@ impl<B: ExportName, D: Disk, H: ReadUnlocked, T: Trust> Export<B, D, H, T> {
         };
         match &served {
             Served::Ready(_) => {
-                let (work, is_due) = queue.next_work();
-                self.signals.note_tight(queue.is_tight());
+                let (flusher, checkpointer) = queue.whom_to_wake();
+                self.signals.note_slows_writers(queue.slows_writers());
                 drop(queue);
-                self.signals.notify(work, is_due);
+                self.signals.notify(flusher, checkpointer);
             }
             Served::Wait(_) => {}
             Served::NoRoom(back) if queue.cannot_make_room() => {
@@ -196,19 +196,19 @@ impl<B: ExportName, D: Disk, H: ReadUnlocked, T: Trust> Export<B, D, H, T> {
             Served::NoRoom(back) if queue.exceeds_loss(back) => {
                 queue.want_pending();
                 self.signals.notify(true, false);
-                let _woken = self.signals.settled.wait(rt, queue);
+                let _woken = self.signals.progress.wait(rt, queue);
             }
             Served::NoRoom(_) => {
                 queue.note_no_room();
                 self.signals.notify(true, true);
-                let _woken = self.signals.settled.wait(rt, queue);
+                let _woken = self.signals.progress.wait(rt, queue);
             }
         }
         served
     }
 
-    // Serves a request that needs the device: a planned one without locks if it can, and any other one with the keeper. It refuses one
-    // that takes old bytes which the second handle can't read.
+    // Serves a request that needs the device: a planned READ without locks if it can, any other with the keeper. A write gets EIO if
+    // the second handle can't read the old bytes that it needs.
     fn serve_missing<R: Wait>(
         &self,
         rt: &R,
@@ -224,16 +224,16 @@ impl<B: ExportName, D: Disk, H: ReadUnlocked, T: Trust> Export<B, D, H, T> {
     {
         match self.serve_unlocked(rt, pass, &request, planned, &terms) {
             Some(served) => served,
-            None if planned.is_none() && !self.can_read(edges) => {
+            None if planned.is_none() && !self.can_read_edges(edges) => {
                 refuse(&request, &terms, Errno::Io)
             }
-            None => self.serve_locked(rt, pass, request, terms),
+            None => self.serve_with_keeper(rt, pass, request, terms),
         }
     }
 
-    // Whether the second handle, if there is one, can read the blocks of which a write command takes old bytes. A fault is met here
-    // because the keeper's faults stop the export.
-    fn can_read(&self, edges: MissingEdges) -> bool {
+    // Whether the second handle, if there is one, can read the blocks of which a write needs old bytes. If the keeper met the fault, the
+    // export would stop.
+    fn can_read_edges(&self, edges: MissingEdges) -> bool {
         let Some(handle) = &self.second_handle else {
             return true;
         };
@@ -247,7 +247,7 @@ impl<B: ExportName, D: Disk, H: ReadUnlocked, T: Trust> Export<B, D, H, T> {
             }
             let from = Regions::from_geometry(&self.geometry).block_from(block);
             if handle
-                .read_unlocked(edges.settled, from, &mut bytes)
+                .read_unlocked(edges.noted_base, from, &mut bytes)
                 .is_err()
             {
                 return false;
@@ -280,7 +280,7 @@ impl<B: ExportName, D: Disk, H: ReadUnlocked, T: Trust> Export<B, D, H, T> {
         };
         let head = request.head();
         let blocks = Blocks::from_head(&head);
-        let Some(mut bytes) = self.room(rt, blocks.bytes()) else {
+        let Some(mut bytes) = self.take_buffer(rt, blocks.bytes()) else {
             return None;
         };
         for _ in 0..MOST_TRIES {
@@ -310,9 +310,9 @@ impl<B: ExportName, D: Disk, H: ReadUnlocked, T: Trust> Export<B, D, H, T> {
         None
     }
 
-    // Room of this many bytes.
-    fn room<R: Wait>(&self, rt: &R, length: usize) -> Option<Vec<u8>>
-        ensures { IfSome result (λ room. vec_len room ≡ length) }
+    // A buffer of this many bytes; None without memory.
+    fn take_buffer<R: Wait>(&self, rt: &R, length: usize) -> Option<Vec<u8>>
+        ensures { IfSome result (λ buffer. vec_len buffer ≡ length) }
     {
         if length >= LEAST_KEPT {
             let kept = self.buffers.lock(rt).take(length);
@@ -323,7 +323,7 @@ impl<B: ExportName, D: Disk, H: ReadUnlocked, T: Trust> Export<B, D, H, T> {
         vec![in self.alloc; 0; length].ok()
     }
 
-    // Reads the blocks of a planned span, in one call and without a lock, to their places behind the first block.
+    // Reads the blocks of a planned span, in one call without a lock. `into` begins with the block `first`.
     fn read_span(
         &self,
         handle: &H,
@@ -336,21 +336,21 @@ impl<B: ExportName, D: Disk, H: ReadUnlocked, T: Trust> Export<B, D, H, T> {
         requires inside { 4096 * (planned.span.end - first) ≤ length into.old }
         requires there { planned.span.first < self.now.geometry.blocks }
         ensures size { length into.new ≡ length into.old }
-        ensures place { OnOk result (H.gives handle.now (base_of planned.settled) (block_at self.now.geometry planned.span.first)
+        ensures place { OnOk result (H.gives handle.now (base_of planned.noted_base) (block_at self.now.geometry planned.span.first)
             (slice_range into.new (4096 * (planned.span.first - first)) (4096 * (planned.span.end - first)))) }
     {
         let span = planned.span;
         let from = (BLOCK_BYTES * (span.first - first)) as usize;
         let end = (BLOCK_BYTES * (span.end - first)) as usize;
         handle.read_unlocked(
-            planned.settled,
+            planned.noted_base,
             Regions::from_geometry(&self.geometry).block_from(span.first),
             &mut into[from..end],
         )
     }
 
-    // Serves a request with the keeper, the order's lock inside the keeper's.
-    fn serve_locked<R: Wait>(
+    // Serves a request with the keeper, under its lock and then the order's.
+    fn serve_with_keeper<R: Wait>(
         &self,
         rt: &R,
         pass: &mut Pass<B>,
@@ -369,11 +369,11 @@ impl<B: ExportName, D: Disk, H: ReadUnlocked, T: Trust> Export<B, D, H, T> {
             self.signals.notify_all();
             return served;
         }
-        let (work, is_due) = queue.next_work();
-        self.signals.note_tight(queue.is_tight());
+        let (flusher, checkpointer) = queue.whom_to_wake();
+        self.signals.note_slows_writers(queue.slows_writers());
         drop(queue);
         drop(engine);
-        self.signals.notify(work, is_due);
+        self.signals.notify(flusher, checkpointer);
         served
     }
 
@@ -391,7 +391,7 @@ impl<B: ExportName, D: Disk, H: ReadUnlocked, T: Trust> Export<B, D, H, T> {
             return Answer::Done;
         }
         let mut queue = self.queue.lock(rt);
-        // If it is durable by now, nobody waits, and nobody is counted.
+        // If the number is durable by now, no waiter is counted.
         if self.board.look_durable(pass) >= number {
             return Answer::Done;
         }
@@ -403,19 +403,19 @@ impl<B: ExportName, D: Disk, H: ReadUnlocked, T: Trust> Export<B, D, H, T> {
             if queue.is_stopped() || queue.cannot_store() {
                 return Answer::Refused(Errno::Io);
             }
-            queue = match self.lead(rt, &mut queue) {
+            queue = match self.seal_own_group(rt, &mut queue) {
                 Some(group) => {
                     drop(queue);
-                    self.store_led(rt, points, group);
+                    self.store_own_group(rt, points, group);
                     self.queue.lock(rt)
                 }
-                None => self.signals.settled.wait(rt, queue),
+                None => self.signals.progress.wait(rt, queue),
             };
         }
         unreachable!()
     }
 
-    /// Takes a pass for which no request will be submitted any more.
+    /// Retires a pass: no request is submitted for it any more.
     pub fn leave<R: Wait>(&self, rt: &R, pass: ClientPass<B>) -> RetiredPass<B>
         ensures { result ≡ pass }
     {
@@ -425,8 +425,8 @@ impl<B: ExportName, D: Disk, H: ReadUnlocked, T: Trust> Export<B, D, H, T> {
         RetiredPass { pass }
     }
 
-    /// The pass of the end learns what one that has left knew: what it knows then begins with both histories, and it knows to be durable
-    /// what one of them did. Its roster then has what that one's client sent and was answered.
+    /// The last pass learns what a retired one knew: both histories become prefixes of its own, and it keeps the greater durable number.
+    /// Its roster gets what that client sent and was answered.
     pub fn join(&self, last: &mut LastPass<B>, other: RetiredPass<B>)
         ensures knew { IsPrefix last.old.pass.history last.new.pass.history }
         ensures other { IsPrefix other.history last.new.pass.history }
@@ -441,8 +441,8 @@ impl<B: ExportName, D: Disk, H: ReadUnlocked, T: Trust> Export<B, D, H, T> {
     }
 }
 
-// Answers a request that isn't a DISC, of which nothing was done, with an error: by the rules on requests, else with this one. A FLUSH
-// is never refused for want of memory.
+// Answers a request, except a DISC, before anything of it was done: with the error of the validation rules, else with this one. A FLUSH
+// gets EIO in place of ENOMEM.
 fn refuse(request: &Request, terms: &Terms, errno: Errno) -> Served
     requires kind { request.now.head.kind ≢ 2 }
     requires errors { (errno ≡ Errno.Io) ⊎ (errno ≡ Errno.NoMemory) }

@@ -74,7 +74,7 @@ impl<B: ExportName, D: Disk, H: ReadUnlocked, T: Trust> Export<B, D, H, T> {
         bytes: u32,
         began: Option<Instant>,
     ) -> Option<Duration> {
-        if began.is_none() && !self.signals.is_tight() {
+        if began.is_none() && !self.signals.slows_writers() {
             return None;
         }
         let blocks = u64::from(bytes).saturating_add(BLOCK_BYTES - 1) / BLOCK_BYTES;
@@ -90,7 +90,7 @@ impl<B: ExportName, D: Disk, H: ReadUnlocked, T: Trust> Export<B, D, H, T> {
         // Frames that are let go end it.
         let woken = self
             .signals
-            .settled
+            .progress
             .wait_timeout(rt, queue, Duration::from_micros(micros));
         drop(woken);
         start?.elapsed(rt).ok()

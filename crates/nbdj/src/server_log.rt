@@ -8,7 +8,7 @@ use front_end::WhenFull;
 use image_files::FileLines;
 use nbd_wire::SessionFlags;
 use negotiation::End;
-use server::{Event, Log, Traffic, Watched};
+use server::{Event, Traffic, Watch, Watched};
 use std::alloc::{AllocError, Global};
 use std::fmt::{self, Display, Formatter};
 use std::io::{self, Write};
@@ -393,7 +393,7 @@ impl<'a, 'b, R: Wait + Clock> SyncPoints for ServerWatch<'a, 'b, R> {
     }
 }
 
-impl<'a, 'b, R: Wait + Clock> Log for ServerWatch<'a, 'b, R> {
+impl<'a, 'b, R: Wait + Clock> Watch for ServerWatch<'a, 'b, R> {
     fn announce(&self) -> io::Result<()> {
         let mut output = io::writer(&self.host);
         output.write_all(self.announcement.as_bytes())?;

@@ -4,15 +4,15 @@
 mod client;
 mod client_registry;
 mod listener;
-mod log;
 mod name;
 mod request_handler;
 mod serving;
 mod session_pass;
+mod watch;
 mod worker;
 
 pub use client::Client;
 pub use listener::Listener;
-pub use log::{Event, Log, Traffic, Watched};
+pub use watch::{Event, Traffic, Watch, Watched};
 pub use request_handler::RequestHandler;
 pub use serving::{read_to_end_of, serve};

@@ -8,7 +8,7 @@ ghost use Rattle.shared_store.specs.Answers.{TellsImage};
 ghost use Rattle.shared_store.specs.Orders.{Trusting};
 
 use crate::client::Client;
-use crate::log::{Event, Log, Traffic};
+use crate::watch::{Event, Traffic, Watch};
 use bitflags::Flags;
 use disk_model::Disk;
 use export::{ClientPass, Export, ExportName, ReadUnlocked, SyncPoints};
@@ -35,7 +35,7 @@ pub struct RequestHandler<
     H: ReadUnlocked,
     T: Trust,
     R: Wait + Clock,
-    L: SyncPoints + Log + Copy,
+    L: SyncPoints + Watch + Copy,
 > {
     pub rt: &'a R,
     pub export: &'a Export<B, D, H, T>,
@@ -64,7 +64,7 @@ impl<
     H: ReadUnlocked,
     T: Trust,
     R: Wait + Clock,
-    L: SyncPoints + Log + Copy,
+    L: SyncPoints + Watch + Copy,
 > Serve<ClientPass<B>> for RequestHandler<'a, B, D, H, T, R, L> {
     ghost allows = { λ handler pass request flags next reply. IsSubmitted B.opening B.image (Trusting B.opening B.image B.vouches B.trusted) request handler.export.now.mode pass next reply.answer
         × IsJudged (verdict request.head handler.export.now.geometry flags) request reply.answer
@@ -133,7 +133,7 @@ impl<
     H: ReadUnlocked,
     T: Trust,
     R: Wait + Clock,
-    L: SyncPoints + Log + Copy,
+    L: SyncPoints + Watch + Copy,
 > RequestHandler<'a, B, D, H, T, R, L> {
     // Whether a request with this head is answered once something is stored.
     fn waits_for_store(&self, head: &RequestHead) -> bool {

@@ -15,8 +15,8 @@ ghost use Rattle.shared_store.specs.Orders.{SpanRead};
 
 use crate::client_registry::ClientRegistry;
 use crate::listener::Listener;
-use crate::log::Log;
 use crate::name::ServerName;
+use crate::watch::Watch;
 use crate::worker::{Server, Task, WorkerPool};
 use disk_model::Disk;
 use export::{
@@ -62,7 +62,7 @@ where
     H: ReadUnlocked + Send + Sync,
     R: Threads + Wait + Clock + Copy + Send + Sync + Drop + 'static,
     I: Read + Send + Drop + 'static,
-    G: SyncPoints + Log + Copy + Send + Sync,
+    G: SyncPoints + Watch + Copy + Send + Sync,
     ensures left { IsTrusted D.state D.honest device.keeper (image_found D.state device.keeper) → (history : List Change)
         × LeavesHistory (D.state device.keeper.disk) (D.state result.1) device.keeper.count (image_found D.state device.keeper) history device.keeper.count }
     ensures stored { OnOk result.0 (IsTrusted D.state D.honest device.keeper (image_found D.state device.keeper) → (history : List Change)
@@ -156,7 +156,7 @@ where
     D: Disk + Send + Drop,
     H: ReadUnlocked + Send + Sync,
     R: Threads + Wait + Clock + Sync,
-    G: SyncPoints + Log + Copy + Send + Sync,
+    G: SyncPoints + Watch + Copy + Send + Sync,
     requires mode { T.mode ≡ options.mode }
     requires image { T.image ≡ image_found D.state device.keeper }
     requires trusted { T.trusted → IsTrustedWith D.state D.honest H.vouches device.keeper device.second_handle (image_found D.state device.keeper) }
@@ -208,7 +208,7 @@ where
     H: ReadUnlocked + Send + Sync,
     T: Trust + Send + Sync,
     R: Threads + Wait + Clock + Sync,
-    G: SyncPoints + Log + Copy + Send + Sync,
+    G: SyncPoints + Watch + Copy + Send + Sync,
     requires board { device.blank.board ≡ B.board }
     requires named { device.blank.opening ≡ B.opening }
     requires image { device.keeper.geometry.blocks ≡ B.image.blocks }
@@ -303,7 +303,7 @@ where
     H: ReadUnlocked + Send + Sync,
     T: Trust + Send + Sync,
     R: Threads + Wait + Clock + Sync,
-    G: SyncPoints + Log + Copy + Send + Sync,
+    G: SyncPoints + Watch + Copy + Send + Sync,
     requires { offered export.now.geometry name.bytes.now (flush_waits export.now.mode) ≡ B.offer }
     ensures served { ∥ AreServed B.offer B.geometry result.1.roster.calls ∥₁ }
     ensures all { OnOk result.0 (HasAll result.1.roster) }
@@ -352,7 +352,7 @@ where
     H: ReadUnlocked + Send + Sync,
     T: Trust + Send + Sync,
     R: Threads + Wait + Clock + Sync,
-    G: SyncPoints + Log + Copy + Send + Sync,
+    G: SyncPoints + Watch + Copy + Send + Sync,
 {
     thread::scope(
         thread::scope_env(),
@@ -368,7 +368,7 @@ where
     H: ReadUnlocked + Send + Sync,
     T: Trust + Send + Sync,
     R: Wait + Clock + Sync,
-    G: SyncPoints + Log + Copy + Send + Sync,
+    G: SyncPoints + Watch + Copy + Send + Sync,
 {
     // Starts the threads, and tells that clients are served. If not as many workers can be started, fewer clients are served at a time;
     // without any other thread the server ends.

@@ -1,14 +1,16 @@
-//! The passes of workers: what the log has of their clients comes from sessions.
-ghost use Rattle.std.specs.Prelude.{◌≡◌, ◌≤◌, ◌<◌, ℕ, [], false, true, get_or, length, vec_len, IsTrue};
+//! The passes of workers: all that the log has of one comes from its sessions.
+ghost use Rattle.std.specs.Prelude.{◌≡◌, ◌≤◌, ◌<◌, ℕ, [], false, true, get_or, length, vec_len, IfSome, IsTrue};
+ghost use mathlib.Core.List.{IsPrefix};
 ghost use Rattle.export.specs.Clients.{new_client_passes};
 ghost use Rattle.export_model.specs.Log.{flush_waits};
+ghost use Rattle.marks.specs.Known.{known};
 ghost use Rattle.negotiation.specs.Answered.{offered};
 ghost use Rattle.negotiation.specs.Serving.{IsServed};
 ghost use Rattle.server.specs.Sessions.{AreServed, HasAll, HasCall, HasSessions, IsLogged};
 
-use crate::log::Log;
 use crate::name::ServerName;
 use crate::request_handler::RequestHandler;
+use crate::watch::Watch;
 use disk_model::Disk;
 use export::{ClientPass, Export, ExportFigures, LastPass, ReadUnlocked, RetiredPass, SyncPoints};
 use marks::Trust;
@@ -18,17 +20,17 @@ use std::io::{Read, Write};
 use std::rt::Clock;
 use std::sync::Wait;
 
-/// The most passes of a server: one for each of 16 workers, and that of whoever has all stored.
+/// The most passes of a server: one for each of 16 workers, and one for `nbdj status --store`.
 const MOST_PASSES: usize = 17;
 
 /// The pass of a worker, which serves one session after another.
 #[derive(Drop)]
 pub(crate) struct SessionPass<B: ServerName> {
     pass: ClientPass<B>,
-    // The number of its client in the log.
-    number: usize,
-    ghost few: { number < 17 },
-    ghost by: { pass.client.by ≡ number },
+    // The number of its client in the proofs' log.
+    client_number: usize,
+    ghost in_range: { client_number < 17 },
+    ghost by: { pass.client.by ≡ client_number },
     ghost served: { HasSessions B.offer B.geometry pass.client.by pass.client.mine },
 }
 
@@ -46,56 +48,60 @@ impl<B: ServerName> SessionPass<B> {
         H: ReadUnlocked,
         T: Trust,
         R: Wait + Clock,
-        L: SyncPoints + Log + Copy,
+        L: SyncPoints + Watch + Copy,
         I: Read,
         O: Write,
         requires { offered handler.now.export.now.geometry handler.now.name.bytes.now (flush_waits handler.now.export.now.mode) ≡ B.offer }
-        ensures { IsServed (IsLogged B.geometry self.old.number) B.offer self.old.pass.client.mine self.new.pass.client.mine (I.remaining input.old) (I.remaining input.new) (O.contents output.old) (O.contents output.new) result }
+        ensures { IsServed (IsLogged B.geometry self.old.client_number) B.offer self.old.pass.client.mine self.new.pass.client.mine (I.remaining input.old) (I.remaining input.new) (O.contents output.old) (O.contents output.new) result }
     {
         serve_session(alloc, input, output, handler, &mut self.pass)
     }
 
     /// Stores what is pending, and waits for it.
-    pub(crate) fn settle<D: Disk, H: ReadUnlocked, T: Trust, R: Wait + Clock, G: SyncPoints>(
+    pub(crate) fn flush<D: Disk, H: ReadUnlocked, T: Trust, R: Wait + Clock, G: SyncPoints>(
         &mut self,
         rt: &R,
         export: &Export<B, D, H, T>,
         points: &mut G,
     ) {
-        let _settled = export.settle(rt, points, &mut self.pass);
+        let _flushed = export.flush(rt, points, &mut self.pass);
     }
 
-    /// Takes the pass for good.
+    /// Retires the pass.
     pub(crate) fn leave<D: Disk, H: ReadUnlocked, T: Trust, R: Wait>(
         self,
         rt: &R,
         export: &Export<B, D, H, T>,
-    ) -> RetiredSessions<B> {
-        RetiredSessions {
+    ) -> RetiredSessionPass<B> {
+        RetiredSessionPass {
             pass: export.leave(rt, self.pass),
-            number: self.number,
+            client_number: self.client_number,
         }
     }
 }
 
 /// The pass of a worker that serves no more sessions.
 #[derive(Drop)]
-pub(crate) struct RetiredSessions<B: ServerName> {
+pub(crate) struct RetiredSessionPass<B: ServerName> {
     pass: RetiredPass<B>,
-    number: usize,
-    ghost few: { number < 17 },
-    ghost by: { pass.client.by ≡ number },
+    client_number: usize,
+    ghost in_range: { client_number < 17 },
+    ghost by: { pass.client.by ≡ client_number },
     ghost served: { HasSessions B.offer B.geometry pass.client.by pass.client.mine },
 }
 
-impl<B: ServerName> RetiredSessions<B> {
-    /// Has all that is accepted by now stored; the number of the last of it, or None if it never will be.
+impl<B: ServerName> RetiredSessionPass<B> {
+    /// Waits until all accepted by now is stored; the last number of it, or None if it never will be.
     pub(crate) fn store<D: Disk, H: ReadUnlocked, T: Trust, R: Wait + Clock, G: SyncPoints>(
         &mut self,
         rt: &R,
         export: &Export<B, D, H, T>,
         points: &mut G,
-    ) -> Option<u64> {
+    ) -> Option<u64>
+        ensures stored { IfSome result (λ number. (known self.old.pass ≤ number) × (number ≤ self.new.pass.durable)) }
+        ensures knew { IsPrefix self.old.pass.history self.new.pass.history }
+        ensures client { self.new.pass.client ≡ self.old.pass.client }
+    {
         export.store_accepted(rt, points, &mut self.pass)
     }
 }
@@ -121,21 +127,21 @@ impl<B: ServerName> NewPasses<B> {
         self.passes.len()
     }
 
-    /// One of them.
+    /// One of them; None if none is left.
     pub(crate) fn take(&mut self) -> Option<SessionPass<B>> {
         match self.passes.pop() {
             Some(pass) => Some(SessionPass {
                 pass,
-                number: self.passes.len(),
+                client_number: self.passes.len(),
             }),
             None => None,
         }
     }
 }
 
-/// The pass of the end, which the others join.
+/// The last pass, which the others join.
 #[derive(Drop)]
-pub(crate) struct EndPass<B: ServerName> {
+pub(crate) struct LastSessionPass<B: ServerName> {
     last: LastPass<B>,
     // How many passes there were, and which of them have joined it.
     made: usize,
@@ -146,14 +152,14 @@ pub(crate) struct EndPass<B: ServerName> {
     ghost served: { ∥ AreServed B.offer B.geometry last.roster.calls ∥₁ },
 }
 
-impl<B: ServerName> EndPass<B> {
-    /// That of an export with this many passes, of which none has left yet.
-    pub(crate) fn new(last: LastPass<B>, made: usize) -> EndPass<B>
+impl<B: ServerName> LastSessionPass<B> {
+    /// The last pass of an export with this many others; none has joined.
+    pub(crate) fn new(last: LastPass<B>, made: usize) -> LastSessionPass<B>
         requires few { made ≤ 17 }
         requires made { last.roster.made ≡ made }
         requires none { last.roster.calls ≡ [] }
     {
-        EndPass {
+        LastSessionPass {
             last,
             made,
             joined: [false; MOST_PASSES],
@@ -164,19 +170,24 @@ impl<B: ServerName> EndPass<B> {
     pub(crate) fn join<D: Disk, H: ReadUnlocked, T: Trust>(
         &mut self,
         export: &Export<B, D, H, T>,
-        other: RetiredSessions<B>,
+        other: RetiredSessionPass<B>,
     ) {
-        let RetiredSessions { pass, number } = other;
+        let RetiredSessionPass { pass, client_number } = other;
         export.join(&mut self.last, pass);
-        self.joined[number] = true;
+        self.joined[client_number] = true;
     }
 
-    /// The figures of an export, of which it learns.
+    /// An export's figures; it learns from them.
     pub(crate) fn figures<D: Disk, H: ReadUnlocked, T: Trust, R: Wait + Clock>(
         &mut self,
         rt: &R,
         export: &Export<B, D, H, T>,
-    ) -> ExportFigures {
+    ) -> ExportFigures
+        ensures accepted { result.accepted ≡ self.new.last.pass.accepted }
+        ensures durable { result.durable ≡ self.new.last.pass.durable }
+        ensures later { self.old.last.pass.durable ≤ self.new.last.pass.durable }
+        ensures roster { self.new.last.roster ≡ self.old.last.roster }
+    {
         export.figures(rt, &mut self.last)
     }
 

@@ -7,10 +7,10 @@ ghost use Rattle.server.specs.declared.worker.Sessions.TheVariants as Sessions;
 
 use crate::client::{Client, Input, Output, WatchedOutput};
 use crate::client_registry::{ClientRegistry, Session};
-use crate::log::{Event, Log, Traffic, Watched};
 use crate::name::ServerName;
 use crate::request_handler::RequestHandler;
-use crate::session_pass::{EndPass, NewPasses, RetiredSessions, SessionPass};
+use crate::session_pass::{LastSessionPass, NewPasses, RetiredSessionPass, SessionPass};
+use crate::watch::{Event, Traffic, Watch, Watched};
 use disk_model::Disk;
 use export::{ClientPass, Export, ExportFigures, LastPass, ReadUnlocked, SyncPoints};
 use front_end::{OnFault, ServeOptions, WhenFull};
@@ -55,9 +55,9 @@ pub(crate) struct WorkerPool<'a, B: ServerName> {
     registry: &'a ClientRegistry,
     passes: Mutex<NewPasses<B>>,
     // That of the end, which the others join.
-    last: Mutex<EndPass<B>>,
+    last: Mutex<LastSessionPass<B>>,
     // That of whoever has all stored, which may wait, and so isn't the one that figures are read by.
-    storing: Mutex<Option<RetiredSessions<B>>>,
+    storing: Mutex<Option<RetiredSessionPass<B>>>,
     sessions: Mutex<Sessions>,
     // The passes that weren't retired yet.
     unretired: Mutex<usize>,
@@ -79,7 +79,7 @@ impl<'a, B: ServerName> WorkerPool<'a, B> {
         requires made { last.roster.made ≡ vec_len passes }
         requires none { last.roster.calls ≡ [] }
     {
-        let last = EndPass::new(last, passes.len());
+        let last = LastSessionPass::new(last, passes.len());
         let mut passes = NewPasses::new(passes);
         let storing = match passes.take() {
             Some(pass) => Some(pass.leave(rt, export)),
@@ -232,7 +232,7 @@ impl<
     H: ReadUnlocked,
     T: Trust,
     R: Wait + Clock,
-    G: SyncPoints + Log + Copy,
+    G: SyncPoints + Watch + Copy,
 > Server<'a, B, D, H, T, R, G> {
     /// Does a task to its end.
     pub(crate) fn run(&self, task: Task) {
@@ -329,7 +329,7 @@ impl<
         };
         let end = self.serve_client(pass, session, &told);
         let mut points = self.watch;
-        pass.settle(self.rt, self.export, &mut points);
+        pass.flush(self.rt, self.export, &mut points);
         self.watch.note(Event::Left {
             client: session.number,
             end,

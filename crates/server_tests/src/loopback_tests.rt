@@ -10,7 +10,7 @@ use front_end::{Limits, OnFault, Refusal, ServeOptions, WhenFull};
 use image_model::Geometry;
 use nbd_wire::CommandFlags;
 use negotiation::OfferedName;
-use server::{Event, Listener, Log, Watched, serve};
+use server::{Event, Listener, Watch, Watched, serve};
 use std::alloc::{AllocError, Global};
 use std::io::{self, ErrorKind};
 use std::net::{Ipv4Addr, SocketAddr, TcpListener, TcpStream};
@@ -61,7 +61,7 @@ impl<'a, R: Clock> SyncPoints for Gate<'a, R> {
     }
 }
 
-impl<'a, R: Clock> Log for Gate<'a, R> {
+impl<'a, R: Clock> Watch for Gate<'a, R> {
     fn announce(&self) -> io::Result<()> {
         Ok(())
     }

@@ -35,7 +35,7 @@ serve_over-requires-clause-vouched g c =
 pub vouch-is_vouched-requires-clause-given : goal.vouch-is_vouched-requires-clause-given
 vouch-is_vouched-requires-clause-given g c =
     let span = c.args.planned.span in
-    given_same (λ (l : List ℕ). g.H.ReadUnlocked.gives c.args.handle.now c.args.planned.settled.number (block_at c.args.terms.now.geometry span.first) l) span.first span.end
+    given_same (λ (l : List ℕ). g.H.ReadUnlocked.gives c.args.handle.now c.args.planned.noted_base.number (block_at c.args.terms.now.geometry span.first) l) span.first span.end
     (c.args.request.now.head.offset / 4096) c.from_head.result.first c.args.bytes.items c.deref.result.now
     (sym (c.from_head.ensures.first ∙ ap (λ (h : RequestHead). h.offset / 4096) c.head-head.ensures)) (sym c.deref.ensures.value) c.requires.given
 
@@ -49,19 +49,19 @@ vouch-is_vouched-requires-clause-from g c =
 pub returns-clause-rest : goal.returns-clause-rest
 returns-clause-rest g c = (refl, refl, refl, refl, refl, refl, refl, refl, refl, refl, refl, refl, refl, refl, refl, refl)
 
-pub returns-clause-settled : goal.returns-clause-settled
-returns-clause-settled g c = refl
+pub returns-clause-noted_base : goal.returns-clause-noted_base
+returns-clause-noted_base g c = refl
 
-pub returns-clause-let_go : goal.returns-clause-let_go
-returns-clause-let_go g c = λ other. absurd (other c.if-planned-self.false)
+pub returns-clause-other_base : goal.returns-clause-other_base
+returns-clause-other_base g c = λ other. absurd (other c.if-planned-self.false)
 
 pub returns-in_err-served-clause-rest : goal.returns-in_err-served-clause-rest
 returns-in_err-served-clause-rest g c = (refl, refl, refl, refl, refl, refl, refl, refl, refl, refl, refl, refl, refl, refl, refl, refl)
 
 pub returns-then-planned-self : goal.returns-then-planned-self
 returns-then-planned-self g c =
-    record { served = tt; size = c.requires.size; settled = refl; over = tt; let_go = λ other. refl; unchanged = (refl, refl); rest = (refl, refl, refl, refl, refl, refl, refl, refl, refl, refl, refl, refl, refl, refl, refl, refl) }
+    record { served = tt; size = c.requires.size; noted_base = refl; over = tt; other_base = λ other. refl; unchanged = (refl, refl); rest = (refl, refl, refl, refl, refl, refl, refl, refl, refl, refl, refl, refl, refl, refl, refl, refl) }
 
 pub returns-then-not-is_vouched : goal.returns-then-not-is_vouched
 returns-then-not-is_vouched g c =
-    record { served = tt; size = c.requires.size; settled = refl; over = tt; let_go = λ other. refl; unchanged = (refl, refl); rest = (refl, refl, refl, refl, refl, refl, refl, refl, refl, refl, refl, refl, refl, refl, refl, refl) }
+    record { served = tt; size = c.requires.size; noted_base = refl; over = tt; other_base = λ other. refl; unchanged = (refl, refl); rest = (refl, refl, refl, refl, refl, refl, refl, refl, refl, refl, refl, refl, refl, refl, refl, refl) }

@@ -19,8 +19,8 @@ returns-in_default g c = record { served = tt; unchanged = refl }
 pub returns-in_default-second_handle : goal.returns-in_default-second_handle
 returns-in_default-second_handle g c = record { served = tt; unchanged = refl }
 
-pub returns-in_default-room : goal.returns-in_default-room
-returns-in_default-room g c = record { served = tt; unchanged = refl }
+pub returns-in_default-take_buffer : goal.returns-in_default-take_buffer
+returns-in_default-take_buffer g c = record { served = tt; unchanged = refl }
 
 pub returns-in_default-read_span : goal.returns-in_default-read_span
 returns-in_default-read_span g c = record { served = unserved_as c.args.pass.now c.requires.may c.loop.pass c.refuse.result c.refuse.ensures c.loop.invariant.pass; unchanged = tt }
@@ -57,7 +57,7 @@ serve_over-served-requires-clause-planned g c = c.loop.invariant.planned
 
 pub serve_over-served-requires-clause-given : goal.serve_over-served-requires-clause-given
 serve_over-served-requires-clause-given g c =
-    let own = c.args.self.now.geometry in let span = c.loop.planned.span in let first = c.from_head-blocks.result.first in let into = c.read_span.new.into in let Gives = g.H.ReadUnlocked.gives c.in-Some-second_handle.handle c.loop.planned.settled.number in
+    let own = c.args.self.now.geometry in let span = c.loop.planned.span in let first = c.from_head-blocks.result.first in let into = c.read_span.new.into in let Gives = g.H.ReadUnlocked.gives c.in-Some-second_handle.handle c.loop.planned.noted_base.number in
     let place : Gives (block_at own span.first) (slice_range into (4096 * (span.first - first)) (4096 * (span.end - first))) = c.in-Ok.ensures.place in
     given Gives own c.args.terms.now.geometry span.first span.end first (c.args.request.now.head.offset / 4096) c.loop.bytes.len into c.loop.bytes.items
     (c.args.self.now.sized ∙ sym c.requires.may.geometry) (c.from_head-blocks.ensures.first ∙ ap (λ (h : RequestHead). h.offset / 4096) c.head-head.ensures) (c.read_span.ensures.size ∙ c.deref_mut.ensures.len)

@@ -14,7 +14,7 @@ invariant_of-result g c =
     let is = last_new g.B.BoardName.opening (length old.passes.items) front pass (sym items ∙ old.new) size in
     let counted : length front ≡ c.len.result = sym (c.len.ensures ∙ c.pop.new.self.ok.0) in
     let by : pass.client.by ≡ c.len.result = ap (λ (p : PassState). p.client.by) is.1 ∙ counted in record {
-      few = omega (arith, old.few, size, counted, old.passes.ok.0);
+      in_range = omega (arith, old.few, size, counted, old.passes.ok.0);
       by = by;
       served = subst (λ (p : PassState). HasSessions g.B.ServerName.offer g.B.ExportName.geometry p.client.by p.client.mine) (sym is.1) (none_yet g.B.ServerName.offer g.B.ExportName.geometry _);
     }

@@ -13,25 +13,25 @@ pub invariant_of-self : goal.invariant_of-self
 invariant_of-self g c =
     let old = c.args.self.now in let new = c.serve_session.new.pass in
     let offer = g.B.ServerName.offer in let geometry = g.B.ExportName.geometry in
-    let session = session_logged _ geometry old.number (λ before after request flags reply allowed is. (
+    let session = session_logged _ geometry old.client_number (λ before after request flags reply allowed is. (
       allowed.3 ∙ is,
       (
         subst (λ (n : ℕ). after.client.mine ≡ before.client.mine ++ Sent n request ∷ Answered n reply.answer ∷ []) is allowed.4,
         subst (λ (t : Geometry). IsJudged (verdict request.head t flags) request reply.answer) c.args.handler.now.export.now.sized allowed.1,
       ),
     )) _ old.pass new _ _ _ _ _ old.by c.serve_session.ensures in record {
-      few = old.few;
+      in_range = old.in_range;
       by = session.0;
-      served = session_more offer geometry old.number new.client.by old.pass.client.mine new.client.mine session.0
+      served = session_more offer geometry old.client_number new.client.by old.pass.client.mine new.client.mine session.0
           (subst (λ (n : ℕ). HasSessions offer geometry n old.pass.client.mine) old.by old.served)
-          (subst (λ (o : Offer). IsSession o geometry old.number old.pass.client.mine new.client.mine) c.requires session.1);
+          (subst (λ (o : Offer). IsSession o geometry old.client_number old.pass.client.mine new.client.mine) c.requires session.1);
     }
 
 -- the session over these very streams
 pub returns : goal.returns
 returns g c =
     let old = c.args.self.now in let new = c.serve_session.new.pass in let geometry = g.B.ExportName.geometry in
-    session_served _ geometry old.number (λ before after request flags reply allowed is. (
+    session_served _ geometry old.client_number (λ before after request flags reply allowed is. (
       allowed.3 ∙ is,
       (
         subst (λ (n : ℕ). after.client.mine ≡ before.client.mine ++ Sent n request ∷ Answered n reply.answer ∷ []) is allowed.4,

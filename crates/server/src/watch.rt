@@ -38,7 +38,7 @@ pub enum Event<'a> {
         client: u64,
         flags: SessionFlags,
     },
-    /// A request has its answer, this long after it was read. It is told only where `Log::is_timed` holds.
+    /// A request has its answer, this long after it was read. It is told only where `Watch::is_timed` holds.
     Served {
         client: u64,
         head: RequestHead,
@@ -70,7 +70,7 @@ pub trait Watched {
 }
 
 /// Is told what happens, answers clients that ask for figures, and guards the device.
-pub trait Log {
+pub trait Watch {
     /// Clients are served from now on: all threads are there. If this can't be told the server ends.
     fn announce(&self) -> io::Result<()>;
 
@@ -96,7 +96,7 @@ pub trait Log {
 }
 
 /// Nobody is told, and nobody answers.
-impl Log for () {
+impl Watch for () {
     fn announce(&self) -> io::Result<()> {
         Ok(())
     }

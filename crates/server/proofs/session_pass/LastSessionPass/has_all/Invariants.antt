@@ -1,6 +1,6 @@
 use Rattle.std.proofs.Common.{ℕ, ◌<◌}
 use Rattle.server.specs.Sessions.{HasCall}
-use Rattle.server.proofs.session_pass.EndPass.has_all.Given as goal
+use Rattle.server.proofs.session_pass.LastSessionPass.has_all.Given as goal
 
 -- the passes looked at so far have joined
 abbrev pub invariant-loop-at : goal.invariant-loop-at

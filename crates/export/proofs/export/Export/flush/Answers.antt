@@ -1,13 +1,13 @@
 use Rattle.std.proofs.Common.{◌∙◌, ap, arith, subst}
-use Rattle.export.specs.Submits.{IsSettled}
+use Rattle.export.specs.Submits.{IsFlushed}
 use Rattle.marks.specs.Known.{PassState}
 use Rattle.marks.specs.laws.Beginnings.{prefix_trans}
-use Rattle.export.proofs.export.Export.settle.Goals as goal
+use Rattle.export.proofs.export.Export.flush.Goals as goal
 
-pub returns-clause-settled : goal.returns-clause-settled
-returns-clause-settled g c =
+pub returns-clause-flushed : goal.returns-clause-flushed
+returns-clause-flushed g c =
     let looked = c.look_accepted-last.ensures in let waited = c.wait_for.ensures in
-    subst (λ (p : PassState). IsSettled p c.wait_for.new.pass c.wait_for.result) c.pass.view_is
+    subst (λ (p : PassState). IsFlushed p c.wait_for.new.pass c.wait_for.result) c.pass.view_is
     (record {
       answered = waited.answered;
       done = λ done. let reached = waited.done done in let known = looked.known in omega (arith, reached, known);
