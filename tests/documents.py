@@ -7,6 +7,8 @@
 - The commands in console blocks of README.md and docs/ print what stands there.
 - The shell block of README.md, a first served image, runs to its end, if its client is installed.
 - The man page, docs/nbdj.1, has the synopsis, texts, arguments, options, names of values, defaults and values of each command's `--help`.
+- The man pages of nbdj-server and nbdj-standby have the synopsis of the script's usage and the signals of its trap. All three have the
+  program's version, and man formats them without a warning.
 - The completion for bash, packaging/nbdj.bash, has the commands of the man page.
 - Each wrong body, in crates/CRATE/must-fail/, wrong-bodies/CRATE/ and wrong-bodies/by-test/, changes texts that stand once in the crate's
   sources; those for a test name one.
@@ -26,6 +28,8 @@ import tempfile
 
 import checks
 from checks import NBDJ, TOP, check
+
+MAN_PAGES = ["docs/nbdj.1", "docs/nbdj-server.1", "docs/nbdj-standby.8"]
 
 
 def read(path):
@@ -159,8 +163,36 @@ def check_man_page():
             check(f"the man page of {command}: {tag}", row, got["rows"].get(tag))
         for part in ("usage", "about", "note"):
             check(f"the man page of {command}: {part}", wanted[part], got[part])
+
+
+def check_script_pages():
+    """Compares the man pages of the scripts with the scripts."""
+    for path in MAN_PAGES[1:]:
+        page = read(f"{TOP}/{path}").replace("\\-", "-")
+        name = os.path.basename(path).partition(".")[0]
+        script = read(f"{TOP}/packaging/{name}")
+        usage = re.findall(r"^# usage: (.*?) {2,}", script, re.M)
+        check(f"the usage of {name}", 1, len(usage))
+        check(f"the man page of {name}: its synopsis", usage, re.findall(r"^\.SH SYNOPSIS\n\.nf\n(.*)\n\.fi$", page, re.M))
+        trapped = re.findall(r"^trap '.*asked=yes.*' ([A-Z ]+)$", script, re.M)
+        tags = re.findall(r"^\.SH SIGNALS\n\.TP\n\.BR (.*)$", page, re.M)
+        check(f"the man page of {name}: its signals", [it.split() for it in trapped], [re.findall(r"SIG(\w+)", it) for it in tags])
+
+
+def check_man_pages():
+    """Each man page has the program's version and its own name and section, and is formatted without a warning."""
     version = checks.run("--version")[1].strip()
-    check("the version of the man page", [version], re.findall(r'^\.TH NBDJ 1 "\d{4}-\d\d-\d\d" "(.*?)"', page, re.M))
+    for path in MAN_PAGES:
+        name, _, section = os.path.basename(path).rpartition(".")
+        found = re.findall(r'^\.TH (\S+) (\d) "\d{4}-\d\d-\d\d" "(.*?)"', read(f"{TOP}/{path}").replace("\\-", "-"), re.M)
+        check(f"the head of {path}", [(name.upper(), section, version)], found)
+    if not shutil.which("man"):
+        print("skipped: how man formats the man pages, because man is not installed")
+        return
+    for path in MAN_PAGES:
+        words = ["man", "--warnings", "-E", "UTF-8", "-l", "-Tutf8", "-Z", f"{TOP}/{path}"]
+        ran = subprocess.run(words, env={**os.environ, "LC_ALL": "C.UTF-8", "MANWIDTH": "80"}, stdout=subprocess.DEVNULL, stderr=subprocess.PIPE, text=True, timeout=60)
+        check(f"man formats {path}", (0, ""), (ran.returncode, ran.stderr))
 
 
 def check_completion():
@@ -260,6 +292,7 @@ def check_columns():
 def main():
     check_refusals()
     check_completion()
+    check_script_pages()
     check_design()
     check_headline()
     check_charts()
@@ -271,6 +304,7 @@ def main():
         check_examples(os.path.abspath(NBDJ))
         check_first_image(os.path.abspath(NBDJ))
         check_man_page()
+        check_man_pages()
     else:
         check("the program NBDJ", "a built program", NBDJ)
     return checks.finish()

@@ -1055,6 +1055,7 @@ exec 4<&-
 # Installation into a folder, also by a relative path with a space, and as a package; and what the systemd unit runs, with a socket.
 "$here/tools/install" --prefix 'in stalled'
 is 'the installed program' "nbdj $version" "$('in stalled/bin/nbdj' --version)"
+is 'the installed man pages' 'man1/nbdj-server.1 man1/nbdj.1 man8/nbdj-standby.8' "$(cd 'in stalled/share/man' && echo man?/*)"
 is 'the installed completion' yes "$([ -s 'in stalled/share/bash-completion/completions/nbdj' ] && echo yes)"
 unit='in stalled/lib/systemd/system/nbdj@.service'
 is 'the program of the unit' "ExecStart=\"$folder/in stalled/bin/nbdj-server\"" "$(sed -n 's/^\(ExecStart="[^"]*"\) .*/\1/p' "$unit")"
@@ -1104,9 +1105,11 @@ if command -v dpkg-deb >/dev/null; then
     is 'what the package needs' 'libc6 (>= 2.34)' "$(dpkg-deb -f "$package" Depends)"
     is 'the package tells systemd of its unit' yes "$(dpkg-deb -I "$package" postinst | grep -q 'systemctl daemon-reload' && echo yes)"
     if command -v man >/dev/null; then
-        is 'the man page of the package' 0 "$(man -l unpacked/usr/share/man/man1/nbdj.1.gz >printed 2>&1 </dev/null; echo $?)"
+        for page in man1/nbdj.1 man1/nbdj-server.1 man8/nbdj-standby.8; do
+            is "the man page of the package: $page" 0 "$(man -l "unpacked/usr/share/man/$page.gz" >printed 2>&1 </dev/null; echo $?)"
+        done
     else
-        skipped 'the man page of the package' 'man is not installed'
+        skipped 'the man pages of the package' 'man is not installed'
     fi
 else
     skipped 'the package' 'dpkg-deb is not installed'

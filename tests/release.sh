@@ -24,7 +24,7 @@ fi
 
 # A copy of what the demo and its tools read, where a build only says that it was called.
 mkdir copy
-(cd "$here" && tar -cf - --exclude=out crates.txt crates dist tools demo examples docs/nbdj.1 packaging CHANGELOG.md LICENSE) | tar -C copy -xf -
+(cd "$here" && tar -cf - --exclude=out crates.txt crates dist tools demo examples docs/nbdj.1 docs/nbdj-server.1 docs/nbdj-standby.8 packaging CHANGELOG.md LICENSE) | tar -C copy -xf -
 top=$here
 here=$folder/copy
 printf '#!/bin/sh\necho "a build began"\nexit 1\n' >copy/tools/build-program
