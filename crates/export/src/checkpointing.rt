@@ -199,7 +199,7 @@ impl<B: ExportName, D: Disk, H: ReadUnlocked, T: Trust> Export<B, D, H, T> {
         };
         if let CopyStep::AreaEnded { waiting: _ } = step {
             let mut queue = self.queue.lock(rt);
-            engine.clean(&mut queue, &self.board);
+            queue.clean(&self.board, &mut engine.shared);
             queue.note_journal(engine.journal_use());
             drop(queue);
             self.signals.progress.notify_all();

@@ -237,7 +237,7 @@ impl<B: ExportName, D: Disk, H: ReadUnlocked, T: Trust> Export<B, D, H, T> {
         let mut engine = engine.into_inner();
         let mut queue = queue.into_inner();
         let durable = board.look_durable(&mut pass);
-        let mark = engine.meet_all(&mut queue, &board, &mut pass);
+        let mark = queue.meet_all(&board, &mut engine.shared, &mut pass);
         let keeper = queue.close(board, engine, roster);
         (keeper.into_disk(), mark <= durable, pass)
     }

@@ -1,22 +1,13 @@
 //! The state under the keeper lock.
-ghost use Rattle.std.specs.Prelude.{◌≡◌, ◌+◌, ◌<◌, ℕ, List, length};
-ghost use mathlib.Core.List.{IsPrefix};
-ghost use Rattle.disk_model.specs.Disk.{MayLeave};
-ghost use Rattle.export.specs.inner.Serving.{IsServedAs, MayServe};
+ghost use Rattle.std.specs.Prelude.{◌≡◌, ◌+◌, ◌<◌};
 ghost use Rattle.order_book.specs.Order.{with_durable};
-ghost use Rattle.shared_store.specs.Keepers.{HasLeft};
-ghost use Rattle.shared_store.specs.Parts.{StandsWithin};
 
-use crate::commit_queue::CommitQueue;
 use crate::name::ExportName;
 use checkpoint::KeeperFault;
 use disk_model::Disk;
 use journal::Group;
-use marks::{Board, Pass, Trust};
-use nbd_wire::Request;
-use request_core::{Served, Terms};
+use marks::{Board, Trust};
 use shared_store::{SealedGroup, SharedKeeper, SharedOrder, Unstored};
-use std::alloc::Global;
 
 /// The most blocks that are copied in a hold of the keeper's lock: 1 MiB.
 const MOST_COPIED: u32 = 256;
@@ -67,7 +58,7 @@ pub(crate) struct JournalUse {
 
 /// The keeper of an export with its seat, and how much of its areas is used.
 pub(crate) struct StorageEngine<B: ExportName, D: Disk> {
-    shared: SharedKeeper<B, D>,
+    pub(crate) shared: SharedKeeper<B, D>,
     // The bytes of the last area that groups take.
     used: u64,
     // How many areas before it wait to be copied, and what is next of the first of them.
@@ -215,51 +206,6 @@ impl<B: ExportName, D: Disk> StorageEngine<B, D> {
             }
         }
         Ok(CopyStep::Blocks(MOST_COPIED.saturating_sub(left) as u64))
-    }
-
-    /// Serves a request that isn't a DISC, with the keeper.
-    pub(crate) fn serve<T: Trust>(
-        &mut self,
-        queue: &mut CommitQueue<B>,
-        alloc: Global,
-        request: Request,
-        board: &Board<B, T>,
-        pass: &mut Pass<B>,
-        terms: Terms,
-    ) -> Served
-        requires { MayServe T.logs T.trusted T.mode T.image B.opening B.image B.vouches B.trusted B.geometry request terms pass.old.client }
-        ensures { IsServedAs T.logs T.trusted T.image B.opening B.image B.vouches B.trusted request terms pass.old pass.new result }
-    {
-        queue.serve_with(alloc, request, &mut self.shared, board, pass, terms)
-    }
-
-    /// Lets the frames of a queue go whose blocks map and data hold.
-    pub(crate) fn clean<T: Trust>(&mut self, queue: &mut CommitQueue<B>, board: &Board<B, T>)
-        ensures { queue.new.noted_base.number ≡ self.old.shared.keeper.base }
-    {
-        queue.clean(board, &mut self.shared);
-    }
-
-    /// Keeper and pass meet the order: the pass knows all of the history then, and what it knows to be durable is stored. It gives the
-    /// number of the last command that was accepted.
-    pub(crate) fn meet_all<T: Trust>(
-        &mut self,
-        queue: &mut CommitQueue<B>,
-        board: &Board<B, T>,
-        pass: &mut Pass<B>,
-    ) -> u64
-        ensures mark { result ≡ B.opening + length pass.new.history }
-        ensures same { self.new.shared.keeper ≡ self.old.shared.keeper }
-        ensures history { pass.new.history ≡ queue.new.order.history }
-        ensures durable { pass.new.durable ≡ pass.old.durable }
-        ensures own { pass.new.own ≡ pass.old.own }
-        ensures knew { IsPrefix pass.old.history pass.new.history }
-        ensures left { B.trusted → (content : List ℕ) → MayLeave (D.state self.old.shared.keeper.disk) content
-            → StandsWithin B.opening B.image pass.new.history pass.old.durable content }
-        ensures passed { B.trusted → HasLeft B.start (D.state self.old.shared.keeper.disk) B.opening B.image pass.new.history }
-        ensures honest { B.trusted → D.honest self.old.shared.keeper.disk }
-    {
-        queue.meet_all(board, &mut self.shared, pass)
     }
 
     /// Makes durable in the order what is stored.

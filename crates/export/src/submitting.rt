@@ -364,7 +364,7 @@ impl<B: ExportName, D: Disk, H: ReadUnlocked, T: Trust> Export<B, D, H, T> {
         let mut engine = self.engine.lock(rt);
         drop(turn);
         let mut queue = self.queue.lock(rt);
-        let served = engine.serve(&mut queue, self.alloc, request, &self.board, pass, terms);
+        let served = queue.serve_with(self.alloc, request, &mut engine.shared, &self.board, pass, terms);
         if queue.is_stopped() {
             self.signals.notify_all();
             return served;

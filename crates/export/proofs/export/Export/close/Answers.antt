@@ -16,7 +16,7 @@ use Rattle.export.proofs.export.Export.close.Goals as goal
 pub returns-clause-left : goal.returns-clause-left
 returns-clause-left g c = λ sure.
     let met = c.meet_all-mark.ensures in let history = c.meet_all-mark.new.pass.history in
-    let disk = c.into_disk.ensures ∙ ap (λ (k : KeeperState g.row.D.Denot). k.disk) (c.close-keeper.ensures.keeper ∙ met.same) in record {
+    let disk = c.into_disk.ensures ∙ ap (λ (k : KeeperState g.row.D.Denot). k.disk) (c.close-keeper.ensures.keeper ∙ met.keeper) in record {
       passed = subst (λ (d : g.row.D.Denot). HasLeft g.B.ImageName.start (g.D.Disk.state d) g.B.BoardName.opening g.B.ImageName.image history) (sym disk) (met.passed sure);
       left = λ content left.
           subst (λ (n : ℕ). StandsWithin g.B.BoardName.opening g.B.ImageName.image history n content) (sym met.durable)
@@ -50,7 +50,7 @@ returns-clause-own g c =
 
 pub returns-clause-honest : goal.returns-clause-honest
 returns-clause-honest g c = λ sure.
-    let disk = c.into_disk.ensures ∙ ap (λ (k : KeeperState g.row.D.Denot). k.disk) (c.close-keeper.ensures.keeper ∙ c.meet_all-mark.ensures.same) in
+    let disk = c.into_disk.ensures ∙ ap (λ (k : KeeperState g.row.D.Denot). k.disk) (c.close-keeper.ensures.keeper ∙ c.meet_all-mark.ensures.keeper) in
     subst g.D.Disk.honest (sym disk) (c.meet_all-mark.ensures.honest sure)
 
 pub returns-clause-log : goal.returns-clause-log
@@ -58,7 +58,7 @@ returns-clause-log g c = λ logs.
     let (durable, log, left) = c.close-keeper.ensures.log logs in
     let met = c.meet_all-mark.ensures in let history = c.meet_all-mark.new.pass.history in let opening = g.B.BoardName.opening in let image = g.B.ImageName.image in let start = g.B.ImageName.start in let state = g.D.Disk.state in
     let disk = c.into_disk.ensures ∙ ap (λ (k : KeeperState g.row.D.Denot). k.disk) c.close-keeper.ensures.keeper in
-    let same = ap (λ (k : KeeperState g.row.D.Denot). k.disk) met.same in record {
+    let same = ap (λ (k : KeeperState g.row.D.Denot). k.disk) met.keeper in record {
       durable = durable;
       log = subst (λ (r : RosterState). IsOneLog g.T.Trust.trusted g.T.Trust.mode image history durable r) (ap (λ (l : LastState). l.roster) c.last.view_is)
           (subst (λ (i : Image). IsOneLog g.T.Trust.trusted g.T.Trust.mode i history durable c.last.inside.roster) (c.mode-mode.ensures.log logs).image_is
