@@ -64,7 +64,7 @@ IsJudged (Ok Serve) request answer =
 
 -- The end of a wait for all that was accepted: Ok once all that the pass knew before is durable, or EIO. The pass has no further
 -- command.
-pub record IsFlushed (old new : PassState) (answer : Answer) : Type 0 where
+pub record IsFlushAnswered (old new : PassState) (answer : Answer) : Type 0 where
   pub answered : (answer ≡ Done) ⊎ (answer ≡ Refused Io)
   pub done : answer ≡ Done → known old ≤ new.durable
   pub own : new.own ≡ old.own

@@ -9,7 +9,7 @@ pub(crate) const LEAST_KEPT: usize = 65_536;
 /// The most buffers that are kept, of 1 MiB each.
 const MOST_KEPT: usize = 4;
 
-/// Room that was read into before: it needn't be made zero again.
+/// Buffers that were read into before: they needn't be made zero again.
 #[derive(Drop)]
 pub(crate) struct BufferPool {
     free: Vec<Vec<u8>>,
@@ -22,7 +22,7 @@ impl BufferPool {
         }
     }
 
-    /// Room of this many bytes, whatever they are; None if there is none.
+    /// A kept buffer of this many bytes, whatever they are; None if none is kept, or without memory.
     pub(crate) fn take(&mut self, length: usize) -> Option<Vec<u8>>
         ensures { IfSome result (λ buffer. vec_len buffer ≡ length) }
     {

@@ -33,7 +33,7 @@ pub(crate) fn time_since<R: Clock>(rt: &R, began: Option<Instant>) -> Option<Dur
 
 // How far a checkpoint is.
 #[derive(Drop)]
-struct Progress {
+struct CopyState {
     // Whether one has begun.
     is_copying: bool,
     // Since when the first area is copied, and how many of its blocks are.
@@ -43,7 +43,7 @@ struct Progress {
     retries: Retries,
 }
 
-impl Progress {
+impl CopyState {
     // The copy of an area begins.
     fn begin<R: Clock>(&mut self, rt: &R) {
         self.is_copying = true;
@@ -75,17 +75,17 @@ impl<B: ExportName, D: Disk, H: ReadUnlocked, T: Trust> Export<B, D, H, T> {
     /// call of the device has failed, and when no greater generation of a header is left; then writes that need space block forever.
     /// If memory runs out it tries again, as the flusher does.
     pub fn checkpointer<R: Wait + Clock, G: SyncPoints>(&self, rt: &R, points: &mut G) {
-        let mut progress = Progress {
+        let mut state = CopyState {
             is_copying: false,
             began: None,
             blocks: 0,
             retries: Retries::new(),
         };
         for _ in rt.forever() {
-            let goes_on = if progress.is_copying {
-                self.checkpoint(rt, points, &mut progress)
+            let goes_on = if state.is_copying {
+                self.checkpoint(rt, points, &mut state)
             } else {
-                self.wait_for_checkpoint(rt, &mut progress)
+                self.wait_for_checkpoint(rt, &mut state)
             };
             if !goes_on {
                 return;
@@ -94,14 +94,14 @@ impl<B: ExportName, D: Disk, H: ReadUnlocked, T: Trust> Export<B, D, H, T> {
     }
 
     // Begins a checkpoint where one is due, else waits for a while; not where there will be none.
-    fn wait_for_checkpoint<R: Wait + Clock>(&self, rt: &R, progress: &mut Progress) -> bool {
+    fn wait_for_checkpoint<R: Wait + Clock>(&self, rt: &R, state: &mut CopyState) -> bool {
         let queue = self.queue.lock(rt);
-        if queue.is_stopped() || queue.is_flushed() {
+        if queue.is_stopped() || queue.flusher_ended() {
             return false;
         }
         if queue.is_checkpoint_due() {
             drop(queue);
-            progress.begin(rt);
+            state.begin(rt);
         } else {
             let _woken = self.signals.checkpoint_due.wait(rt, queue);
         }
@@ -114,7 +114,7 @@ impl<B: ExportName, D: Disk, H: ReadUnlocked, T: Trust> Export<B, D, H, T> {
         &self,
         rt: &R,
         points: &mut G,
-        progress: &mut Progress,
+        state: &mut CopyState,
     ) -> bool {
         points.reach(Point::Step);
         let turn = self.signals.turn.lock(rt);
@@ -122,20 +122,20 @@ impl<B: ExportName, D: Disk, H: ReadUnlocked, T: Trust> Export<B, D, H, T> {
         drop(turn);
         let step_outcome = self.take_step(rt, &mut engine);
         drop(engine);
-        if !matches!(step_outcome, StepOutcome::NoMemory) && !progress.retries.has_no_refusal() {
-            progress.retries = Retries::new();
+        if !matches!(step_outcome, StepOutcome::NoMemory) && !state.retries.has_no_refusal() {
+            state.retries = Retries::new();
             self.queue.lock(rt).set_cannot_copy(false);
         }
         match step_outcome {
             StepOutcome::Rotated => {}
             StepOutcome::Copied(CopyStep::Blocks(more)) => {
-                progress.blocks = progress.blocks.saturating_add(more);
+                state.blocks = state.blocks.saturating_add(more);
             }
-            StepOutcome::Copied(CopyStep::AreaEnded { waiting }) => progress.end_area(
+            StepOutcome::Copied(CopyStep::AreaEnded { waiting }) => state.end_area(
                 rt, points, waiting,
             ),
-            StepOutcome::Idle => progress.is_copying = false,
-            StepOutcome::NoMemory => return self.wait_to_copy(rt, points, &mut progress.retries),
+            StepOutcome::Idle => state.is_copying = false,
+            StepOutcome::NoMemory => return self.wait_to_copy(rt, points, &mut state.retries),
             StepOutcome::Ended => return false,
         }
         true
@@ -158,7 +158,7 @@ impl<B: ExportName, D: Disk, H: ReadUnlocked, T: Trust> Export<B, D, H, T> {
         let mut queue = self.queue.lock(rt);
         queue.set_cannot_copy(true);
         self.signals.progress.notify_all();
-        !(queue.is_flushed() && (queue.is_stopped() || retries.is_hopeless()))
+        !(queue.flusher_ended() && (queue.is_stopped() || retries.is_hopeless()))
     }
 
     // Takes the first step that there is, under the keeper's lock. Another area is taken into use where none waits to be copied, and
@@ -190,7 +190,7 @@ impl<B: ExportName, D: Disk, H: ReadUnlocked, T: Trust> Export<B, D, H, T> {
         self.copy_on(rt, engine)
     }
 
-    // Copies a part of the first area. If the area is let go, so are the frames, in the same critical section: the order knows of a base
+    // Copies a part of the first area. When its checkpoint ends, its blocks are made clean in the same critical section: the order knows of a base
     // before there is another one.
     fn copy_on<R: Wait>(&self, rt: &R, engine: &mut StorageEngine<B, D>) -> StepOutcome {
         let step = match engine.copy_on(&self.board) {

@@ -20,8 +20,8 @@ use crate::figures::{Notes, QueueFigures};
 use crate::gathering::Waiters;
 use crate::name::ExportName;
 use crate::second_handle::ReadUnlocked;
-use crate::storing::FlushInterval;
 use crate::storage_engine::{JournalUse, StorageEngine};
+use crate::storing::FlushInterval;
 use crate::throttling::{Throttle, eighths_above};
 use checkpoint::Keeper;
 use disk_model::Disk;
@@ -60,7 +60,7 @@ pub(crate) struct Planned {
 /// The order of an export, and what its threads ask of one another.
 pub(crate) struct CommitQueue<B: ExportName> {
     order: SharedOrder<B>,
-    // The base that the order has noted: the number up to which the frames of written blocks were let go.
+    // The base that the order has noted: the number up to which written blocks are clean.
     pub(crate) noted_base: NotedBase,
     // The frames for blocks.
     frames: u32,
@@ -75,12 +75,12 @@ pub(crate) struct CommitQueue<B: ExportName> {
     calls_flusher: bool,
     // Whether a group didn't fit the area, and no other area has been taken into use since.
     is_full: bool,
-    // Whether a command had no room, and no frame has been let go since.
+    // Whether a command had no room, and no checkpoint has ended since.
     lacks_room: bool,
     // Whether a checkpoint is wanted, once all up to this number is stored.
     wish: Option<u64>,
     // Whether no group will be stored any more.
-    is_flushed: bool,
+    flusher_ended: bool,
     // Whether memory has been refused for so long that nobody is to wait for the next group, or for a copy of the journal.
     cannot_store: bool,
     cannot_copy: bool,
@@ -110,7 +110,7 @@ impl<B: ExportName> Drop for CommitQueue<B> {
             is_full: _,
             lacks_room: _,
             wish: _,
-            is_flushed: _,
+            flusher_ended: _,
             cannot_store: _,
             cannot_copy: _,
             most_pending: _,
@@ -175,7 +175,7 @@ impl<B: ExportName> CommitQueue<B> {
             is_full: false,
             lacks_room: false,
             wish: None,
-            is_flushed: false,
+            flusher_ended: false,
             cannot_store: false,
             cannot_copy: false,
             most_pending: u64::MAX,
@@ -233,7 +233,7 @@ impl<B: ExportName> CommitQueue<B> {
     /// Serves a READ with bytes of the device that were read without locks. They come back if the blocks may have other bytes now, or
     /// another block is needed.
     ///
-    /// The blocks may have other bytes only if the order has noted another base since, when frames were let go. While the base is the
+    /// The blocks may have other bytes only if the order has noted another base since, when blocks became clean. While the base is the
     /// same, no command after it has touched a block that is data now and isn't in memory: if the last such command had cleared the
     /// block it would be no data, and if it had written the block its frame would be dirty until a clean. So the block is as at that
     /// base; and a checkpoint writes only the places of blocks that a command after the base writes.
@@ -259,14 +259,14 @@ impl<B: ExportName> CommitQueue<B> {
         ensures noted_base { self.new.noted_base ≡ self.old.noted_base }
         ensures over { IfOk result (λ served. IsReadOverServed request.now.head planned.span bytes.items self.old.order self.new.order served) }
 
-        // Nothing is served of bytes that were read before frames were let go.
+        // No bytes are served that were read at another noted base.
         ensures other_base { planned.noted_base.number ≢ self.old.noted_base.number → IsErr result }
 
         // Where the bytes come back order and pass are as they were, and the rest of the queue is always.
         ensures unchanged { OnErr result ((self.new.order ≡ self.old.order) × (pass.new ≡ pass.old)) }
         ensures rest { (self.new.frames ≡ self.old.frames) × (self.new.passes ≡ self.old.passes) × (self.new.wanted ≡ self.old.wanted)
             × (self.new.waiters ≡ self.old.waiters) × (self.new.is_storing ≡ self.old.is_storing) × (self.new.calls_flusher ≡ self.old.calls_flusher) × (self.new.is_full ≡ self.old.is_full) × (self.new.lacks_room ≡ self.old.lacks_room)
-            × (self.new.wish ≡ self.old.wish) × (self.new.is_flushed ≡ self.old.is_flushed) × (self.new.cannot_store ≡ self.old.cannot_store) × (self.new.cannot_copy ≡ self.old.cannot_copy) × (self.new.most_pending ≡ self.old.most_pending) × (self.new.interval ≡ self.old.interval)
+            × (self.new.wish ≡ self.old.wish) × (self.new.flusher_ended ≡ self.old.flusher_ended) × (self.new.cannot_store ≡ self.old.cannot_store) × (self.new.cannot_copy ≡ self.old.cannot_copy) × (self.new.most_pending ≡ self.old.most_pending) × (self.new.interval ≡ self.old.interval)
             × (self.new.throttle ≡ self.old.throttle) × (self.new.notes ≡ self.old.notes) }
     {
         if planned.noted_base.number != self.noted_base.number {
@@ -386,7 +386,7 @@ impl<B: ExportName> CommitQueue<B> {
         ensures noted_base { self.new.noted_base ≡ self.old.noted_base }
         ensures limit { self.new.most_pending ≡ self.old.most_pending }
     {
-        self.is_flushed = true;
+        self.flusher_ended = true;
     }
 
     /// The flusher is to store all up to a number.
@@ -416,7 +416,7 @@ impl<B: ExportName> CommitQueue<B> {
 
     /// Whether the thread that waits is to store the next group itself: it waits alone, nobody stores a group, and nothing else calls
     /// the flusher. If several wait the flusher stores one group after another without a thread to be woken between two.
-    pub(crate) fn may_store_itself(&self) -> bool {
+    pub(crate) fn may_waiter_store(&self) -> bool {
         self.is_group_due() && !self.needs_flusher()
     }
 
@@ -506,8 +506,8 @@ impl<B: ExportName> CommitQueue<B> {
         self.order.order().backlog_bytes() > MOST_PENDING_BYTES.min(self.most_pending / 2)
     }
 
-    /// What there is to do once a request was served: for the flusher, where much is pending or it counts the time
-    /// from now on, and for the checkpointer, where a checkpoint is wanted since now.
+    /// Whether to wake the flusher, and the checkpointer, once a request was served: both if a checkpoint is wanted from now on, and the
+    /// flusher also if much is pending, or if it is to count the time from now on.
     pub(crate) fn whom_to_wake(&mut self) -> (bool, bool)
         ensures noted_base { self.new.noted_base ≡ self.old.noted_base }
         ensures limit { self.new.most_pending ≡ self.old.most_pending }
@@ -564,8 +564,8 @@ impl<B: ExportName> CommitQueue<B> {
     }
 
     /// Whether no group will be stored any more.
-    pub(crate) fn is_flushed(&self) -> bool {
-        self.is_flushed
+    pub(crate) fn flusher_ended(&self) -> bool {
+        self.flusher_ended
     }
 
     /// Whether memory has been refused to the flusher for so long that nobody is to wait for a group.
@@ -720,7 +720,8 @@ impl<B: ExportName> CommitQueue<B> {
         self.wants_checkpoint()
     }
 
-    /// Keeper and pass meet the order, and gives the number of the last command that was accepted.
+    /// Keeper and pass meet the order: the pass then knows the whole history, and what it knows to be durable is stored. Gives the number
+    /// of the last command that was accepted.
     pub(crate) fn meet_all<D: Disk, T: Trust>(
         &mut self,
         board: &Board<B, T>,
@@ -764,7 +765,7 @@ impl<B: ExportName> CommitQueue<B> {
             is_full: _,
             lacks_room: _,
             wish: _,
-            is_flushed: _,
+            flusher_ended: _,
             cannot_store: _,
             cannot_copy: _,
             most_pending: _,
@@ -775,7 +776,7 @@ impl<B: ExportName> CommitQueue<B> {
         order.close(board, engine.into_shared(), roster)
     }
 
-    /// Lets go of the frames whose blocks the image holds. A checkpoint that was wanted is done, and is wanted again if the area is
+    /// Makes the blocks clean that the image holds. A checkpoint that was wanted is done, and is wanted again if the area is
     /// full.
     pub(crate) fn clean<D: Disk, T: Trust>(
         &mut self,

@@ -185,7 +185,9 @@ impl<B: ExportName, D: Disk, H: ReadUnlocked, T: Trust> Export<B, D, H, T> {
                     mode,
                     log,
                     engine: Mutex::new(engine),
-                    queue: Mutex::new(CommitQueue::new(order, frames, workers, noted_base, journal)),
+                    queue: Mutex::new(CommitQueue::new(
+                        order, frames, workers, noted_base, journal,
+                    )),
                     second_handle,
                     buffers: Mutex::new(BufferPool::new(alloc)),
                     signals: Signals::new(),
@@ -201,7 +203,7 @@ impl<B: ExportName, D: Disk, H: ReadUnlocked, T: Trust> Export<B, D, H, T> {
         self.queue.lock(rt).is_stopped()
     }
 
-    /// The device, as it is, and whether all is stored of the history that the pass of the end then knows; that comes back. What is pending is
+    /// The device, as it is, and whether all is stored of the history that the last pass then knows; that comes back. What is pending is
     /// lost.
     ///
     /// It meets the order for that: its history begins with what the pass knew, and with what those passes knew that it has joined.

@@ -147,9 +147,9 @@ impl<B: ExportName, D: Disk, H: ReadUnlocked, T: Trust> Export<B, D, H, T> {
         }
     }
 
-    /// The next group, if the thread that asks is to store it: it waits itself for what is pending. None leaves that to the flusher, if
-    /// nobody stores a group.
-    pub(crate) fn seal_own_group<R: Wait + Clock>(
+    /// Seals the next group if the waiting thread that asks is to store it. Otherwise None, and the flusher is called unless a group is
+    /// being stored.
+    pub(crate) fn seal_for_waiter<R: Wait + Clock>(
         &self,
         rt: &R,
         queue: &mut CommitQueue<B>,
@@ -157,7 +157,7 @@ impl<B: ExportName, D: Disk, H: ReadUnlocked, T: Trust> Export<B, D, H, T> {
         if queue.is_storing() {
             return None;
         }
-        if queue.may_store_itself() {
+        if queue.may_waiter_store() {
             match queue.seal(&self.board, Instant::now(rt).ok()) {
                 Ok(Some(group)) => return Some(group),
                 Ok(None) | Err(_) => {}
@@ -169,7 +169,7 @@ impl<B: ExportName, D: Disk, H: ReadUnlocked, T: Trust> Export<B, D, H, T> {
     }
 
     /// Stores a group that a waiting thread has sealed. If memory is refused the flusher tries again.
-    pub(crate) fn store_own_group<R: Wait + Clock, G: SyncPoints>(
+    pub(crate) fn store_for_waiter<R: Wait + Clock, G: SyncPoints>(
         &self,
         rt: &R,
         points: &mut G,

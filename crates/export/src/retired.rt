@@ -18,7 +18,7 @@ impl<B: BoardName> Model for RetiredPass<B> {
     ghost invariant = { λ retired. retired.pass.client.speaks ≡ true };
 }
 
-/// The pass of an export's end, which those of the clients join, and the roster of what they sent and were answered.
+/// The last pass of an export, which those of the clients join, and the roster of what they sent and were answered.
 #[derive(Drop)]
 pub struct LastPass<B: BoardName> {
     pub(crate) pass: Pass<B>,

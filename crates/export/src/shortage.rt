@@ -9,10 +9,10 @@ const LEAST_WAIT: u64 = 10;
 
 const MOST_WAIT: u64 = 1_000;
 
-/// The milliseconds of such waits after which no request waits for the step any more.
+/// The milliseconds of waiting for memory after which no request waits for the step any more.
 const PATIENCE: u64 = 1_000;
 
-/// The milliseconds of such waits after which a server that ends gives the step up.
+/// The milliseconds of waiting for memory after which a server that ends gives up the step.
 const LAST_PATIENCE: u64 = 10_000;
 
 /// For how long a step has been refused memory, again and again.
@@ -40,7 +40,7 @@ impl Retries {
         self.waited >= PATIENCE
     }
 
-    /// Whether a server that ends gives the step up.
+    /// Whether a server that ends gives up the step.
     pub(crate) fn is_hopeless(&self) -> bool {
         self.waited >= LAST_PATIENCE
     }

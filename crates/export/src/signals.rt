@@ -5,7 +5,8 @@ use std::sync::{Condvar, Mutex};
 
 /// Where threads wait, and are told to look again.
 pub(crate) struct Signals {
-    /// Told after each publish, after each clean and after the stop.
+    /// Told after each publish, each clean and the stop, when a checkpoint has nothing to copy, and when requests are to wait for memory no
+    /// longer.
     pub progress: Condvar,
     /// Told where the flusher has work.
     pub work: Condvar,

@@ -25,7 +25,7 @@ enum Stage {
     Copy,
     // The map after it is written.
     Map,
-    // It is let go.
+    // Its checkpoint is ended.
     Finish,
 }
 
@@ -34,7 +34,7 @@ enum Stage {
 pub(crate) enum CopyStep {
     /// It copied this many blocks.
     Blocks(u64),
-    /// The first area was let go, and this many still wait.
+    /// The checkpoint of the first area has ended, and this many areas still wait.
     AreaEnded { waiting: u8 },
 }
 
@@ -166,7 +166,7 @@ impl<B: ExportName, D: Disk> StorageEngine<B, D> {
         self.waiting
     }
 
-    /// Takes the next step of copying the first area that waits: some of its blocks, the map after it, or it is let go.
+    /// Takes the next step of copying the first area that waits: some of its blocks, the map after it, or the end of its checkpoint.
     pub(crate) fn copy_on<T: Trust>(
         &mut self,
         board: &Board<B, T>,

@@ -1,7 +1,8 @@
-//! Commands that are stored though no request waits for them: at the end of a session, and once they have been pending for a while.
+//! Commands that are stored though no request waits for them: at the end of a session, when an operator asks for it, and once they
+//! have been pending for a while.
 ghost use Rattle.std.specs.Prelude.{◌≡◌, ◌≤◌, IfSome};
 ghost use mathlib.Core.List.{IsPrefix};
-ghost use Rattle.export.specs.Submits.{IsFlushed};
+ghost use Rattle.export.specs.Submits.{IsFlushAnswered};
 ghost use Rattle.marks.specs.Known.{known};
 
 use crate::client_pass::ClientPass;
@@ -66,15 +67,15 @@ impl<B: ExportName, D: Disk, H: ReadUnlocked, T: Trust> Export<B, D, H, T> {
         self.queue.lock(rt).interval().limit = Some(limit);
     }
 
-    /// Asks for what was accepted by now, as a FLUSH does, and waits until that is durable, or never will be. Said is of it what its
-    /// pass knew before.
+    /// Asks for what was accepted by now, as a FLUSH does, and waits until that is durable (Done), or never will be (EIO). The contract
+    /// covers only what its pass knew before.
     pub fn flush<R: Wait + Clock, G: SyncPoints>(
         &self,
         rt: &R,
         points: &mut G,
         pass: &mut ClientPass<B>,
     ) -> Answer
-        ensures flushed { IsFlushed pass.old pass.new result }
+        ensures flushed { IsFlushAnswered pass.old pass.new result }
         ensures client { pass.new.client ≡ pass.old.client }
     {
         let last = self.board.look_accepted(&mut pass.pass);

@@ -161,7 +161,7 @@ impl<B: ExportName, D: Disk, H: ReadUnlocked, T: Trust> Export<B, D, H, T> {
         }
     }
 
-    // Tries to serve a request, under the order's lock alone if it can. Without room it waits for some, and gives the request back.
+    // Tries to serve a request, under the order's lock alone if it can. Without room it gives the request back, mostly after a wait.
     fn serve_once<R: Wait>(
         &self,
         rt: &R,
@@ -207,7 +207,7 @@ impl<B: ExportName, D: Disk, H: ReadUnlocked, T: Trust> Export<B, D, H, T> {
         served
     }
 
-    // Serves a request that needs the device: a planned READ without locks if it can, any other with the keeper. A write gets EIO if
+    // Serves a request that needs the device: a planned READ without locks if that succeeds, otherwise with the keeper. A write gets EIO if
     // the second handle can't read the old bytes that it needs.
     fn serve_missing<R: Wait>(
         &self,
@@ -231,8 +231,8 @@ impl<B: ExportName, D: Disk, H: ReadUnlocked, T: Trust> Export<B, D, H, T> {
         }
     }
 
-    // Whether the second handle, if there is one, can read the blocks of which a write needs old bytes. If the keeper met the fault, the
-    // export would stop.
+    // Whether the second handle, if there is one, can read the blocks of which a write needs old bytes. It is asked first, because
+    // a fault that the keeper meets stops the export.
     fn can_read_edges(&self, edges: MissingEdges) -> bool {
         let Some(handle) = &self.second_handle else {
             return true;
@@ -364,7 +364,8 @@ impl<B: ExportName, D: Disk, H: ReadUnlocked, T: Trust> Export<B, D, H, T> {
         let mut engine = self.engine.lock(rt);
         drop(turn);
         let mut queue = self.queue.lock(rt);
-        let served = queue.serve_with(self.alloc, request, &mut engine.shared, &self.board, pass, terms);
+        let shared = &mut engine.shared;
+        let served = queue.serve_with(self.alloc, request, shared, &self.board, pass, terms);
         if queue.is_stopped() {
             self.signals.notify_all();
             return served;
@@ -403,10 +404,10 @@ impl<B: ExportName, D: Disk, H: ReadUnlocked, T: Trust> Export<B, D, H, T> {
             if queue.is_stopped() || queue.cannot_store() {
                 return Answer::Refused(Errno::Io);
             }
-            queue = match self.seal_own_group(rt, &mut queue) {
+            queue = match self.seal_for_waiter(rt, &mut queue) {
                 Some(group) => {
                     drop(queue);
-                    self.store_own_group(rt, points, group);
+                    self.store_for_waiter(rt, points, group);
                     self.queue.lock(rt)
                 }
                 None => self.signals.progress.wait(rt, queue),

@@ -87,7 +87,7 @@ impl<B: ExportName, D: Disk, H: ReadUnlocked, T: Trust> Export<B, D, H, T> {
             return None;
         }
         let start = Instant::now(rt).ok();
-        // Frames that are let go end it.
+        // Each publish or clean ends it early.
         let woken = self
             .signals
             .progress

@@ -13,6 +13,6 @@ mod worker;
 
 pub use client::Client;
 pub use listener::Listener;
-pub use watch::{Event, Traffic, Watch, Watched};
 pub use request_handler::RequestHandler;
 pub use serving::{read_to_end_of, serve};
+pub use watch::{Event, Traffic, Watch, Watched};

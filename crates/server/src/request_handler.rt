@@ -44,7 +44,7 @@ pub struct RequestHandler<
     pub number: u64,
     // What the client has asked for.
     pub traffic: &'a Cell<Traffic>,
-    pub log: L,
+    pub watch: L,
     // How long the client may say nothing once its handshake is over; None for no end.
     pub idle_limit: Option<Duration>,
     // How old a pending command may be when a write is accepted; None for no end.
@@ -105,12 +105,12 @@ impl<
         let head = request.head();
         self.count(&request, flags);
         self.wait_for_older(&head);
-        let began = if self.log.is_timed() || self.loss_age.is_some() {
+        let began = if self.watch.is_timed() || self.loss_age.is_some() {
             Instant::now(self.rt).ok()
         } else {
             None
         };
-        let mut points = self.log;
+        let mut points = self.watch;
         let reply = self
             .export
             .submit(self.rt, &mut points, pass, request, flags);
@@ -181,7 +181,7 @@ impl<
             Answer::Refused(errno) => Some(*errno),
             _ => None,
         };
-        self.log.note(Event::Served {
+        self.watch.note(Event::Served {
             client: self.number,
             head,
             refused,
@@ -194,7 +194,7 @@ impl<
     fn count(&self, request: &Request, flags: &SessionFlags) {
         let mut traffic = self.traffic.get();
         if traffic.requests == 0 {
-            self.log.note(Event::Agreed {
+            self.watch.note(Event::Agreed {
                 client: self.number,
                 flags: *flags,
             });

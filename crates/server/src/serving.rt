@@ -288,7 +288,7 @@ where
     )
 }
 
-// Serves clients until all threads have ended; why it couldn't begin, and the pass of the end.
+// Serves clients until all threads have ended; why it couldn't begin, and the last pass.
 fn serve_clients<B, D, H, T, R, G>(
     rt: &R,
     pool: WorkerPool<'_, B>,

@@ -1,4 +1,4 @@
-//! The passes of workers: all that the log has of one comes from its sessions.
+//! The passes of workers: all that the log has of a pass's client comes from its sessions.
 ghost use Rattle.std.specs.Prelude.{◌≡◌, ◌≤◌, ◌<◌, ℕ, [], false, true, get_or, length, vec_len, IfSome, IsTrue};
 ghost use mathlib.Core.List.{IsPrefix};
 ghost use Rattle.export.specs.Clients.{new_client_passes};
@@ -91,7 +91,8 @@ pub(crate) struct RetiredSessionPass<B: ServerName> {
 }
 
 impl<B: ServerName> RetiredSessionPass<B> {
-    /// Waits until all accepted by now is stored; the last number of it, or None if it never will be.
+    /// Has all that is accepted by now stored, and waits until it is: the last number of it, or None if it never will be. The contract covers
+    /// only what the pass knew before.
     pub(crate) fn store<D: Disk, H: ReadUnlocked, T: Trust, R: Wait + Clock, G: SyncPoints>(
         &mut self,
         rt: &R,
@@ -100,6 +101,7 @@ impl<B: ServerName> RetiredSessionPass<B> {
     ) -> Option<u64>
         ensures stored { IfSome result (λ number. (known self.old.pass ≤ number) × (number ≤ self.new.pass.durable)) }
         ensures knew { IsPrefix self.old.pass.history self.new.pass.history }
+        ensures lasts { self.old.pass.durable ≤ self.new.pass.durable }
         ensures client { self.new.pass.client ≡ self.old.pass.client }
     {
         export.store_accepted(rt, points, &mut self.pass)
@@ -172,12 +174,15 @@ impl<B: ServerName> LastSessionPass<B> {
         export: &Export<B, D, H, T>,
         other: RetiredSessionPass<B>,
     ) {
-        let RetiredSessionPass { pass, client_number } = other;
+        let RetiredSessionPass {
+            pass,
+            client_number,
+        } = other;
         export.join(&mut self.last, pass);
         self.joined[client_number] = true;
     }
 
-    /// An export's figures; it learns from them.
+    /// The figures of an export. The last pass learns the accepted and the durable number from them.
     pub(crate) fn figures<D: Disk, H: ReadUnlocked, T: Trust, R: Wait + Clock>(
         &mut self,
         rt: &R,
@@ -186,6 +191,7 @@ impl<B: ServerName> LastSessionPass<B> {
         ensures accepted { result.accepted ≡ self.new.last.pass.accepted }
         ensures durable { result.durable ≡ self.new.last.pass.durable }
         ensures later { self.old.last.pass.durable ≤ self.new.last.pass.durable }
+        ensures knew { IsPrefix self.old.last.pass.history self.new.last.pass.history }
         ensures roster { self.new.last.roster ≡ self.old.last.roster }
     {
         export.figures(rt, &mut self.last)

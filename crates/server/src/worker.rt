@@ -54,9 +54,9 @@ pub(crate) struct WorkerPool<'a, B: ServerName> {
     alloc: Global,
     registry: &'a ClientRegistry,
     passes: Mutex<NewPasses<B>>,
-    // That of the end, which the others join.
+    // The last pass, which the others join.
     last: Mutex<LastSessionPass<B>>,
-    // That of whoever has all stored, which may wait, and so isn't the one that figures are read by.
+    // The pass for `nbdj status --store`. It may wait, so figures are read by another.
     storing: Mutex<Option<RetiredSessionPass<B>>>,
     sessions: Mutex<Sessions>,
     // The passes that weren't retired yet.
@@ -64,7 +64,7 @@ pub(crate) struct WorkerPool<'a, B: ServerName> {
 }
 
 impl<'a, B: ServerName> WorkerPool<'a, B> {
-    /// `sessions` is how many it serves, 0 for no limit. The last of the passes is for the caller, who has all stored at the end.
+    /// `sessions` is how many it serves, 0 for no limit. One of the passes is kept for `nbdj status --store`.
     pub(crate) fn new<D: Disk, H: ReadUnlocked, T: Trust, R: Wait>(
         rt: &R,
         alloc: Global,
@@ -127,7 +127,7 @@ impl<'a, B: ServerName> WorkerPool<'a, B> {
         *unretired == 0
     }
 
-    /// The figures of an export, which the pass of the end learns of.
+    /// The figures of an export, which the last pass learns from.
     pub(crate) fn figures<D: Disk, H: ReadUnlocked, T: Trust, R: Wait + Clock>(
         &self,
         rt: &R,
@@ -141,7 +141,7 @@ impl<'a, B: ServerName> WorkerPool<'a, B> {
         self.registry
     }
 
-    /// The pass of the end, and whether all others have joined it. What the log has of the clients that did comes from sessions.
+    /// The last pass, and whether all others have joined it. What the log has of the clients that did comes from sessions.
     pub(crate) fn into_last<D: Disk, H: ReadUnlocked, T: Trust>(
         self,
         export: &Export<B, D, H, T>,
@@ -355,7 +355,7 @@ impl<
             client,
             number: session.number,
             traffic: &told.traffic,
-            log: self.watch,
+            watch: self.watch,
             idle_limit: limits.idle(),
             loss_age: limits.loss_age(),
             is_replying: &told.is_replying,

@@ -1,5 +1,5 @@
 use Rattle.std.proofs.Common.{◌∙◌, ap, arith, subst}
-use Rattle.export.specs.Submits.{IsFlushed}
+use Rattle.export.specs.Submits.{IsFlushAnswered}
 use Rattle.marks.specs.Known.{PassState}
 use Rattle.marks.specs.laws.Beginnings.{prefix_trans}
 use Rattle.export.proofs.export.Export.flush.Goals as goal
@@ -7,7 +7,7 @@ use Rattle.export.proofs.export.Export.flush.Goals as goal
 pub returns-clause-flushed : goal.returns-clause-flushed
 returns-clause-flushed g c =
     let looked = c.look_accepted-last.ensures in let waited = c.wait_for.ensures in
-    subst (λ (p : PassState). IsFlushed p c.wait_for.new.pass c.wait_for.result) c.pass.view_is
+    subst (λ (p : PassState). IsFlushAnswered p c.wait_for.new.pass c.wait_for.result) c.pass.view_is
     (record {
       answered = waited.answered;
       done = λ done. let reached = waited.done done in let known = looked.known in omega (arith, reached, known);
