@@ -1055,7 +1055,7 @@ exec 4<&-
 # Installation into a folder, also by a relative path with a space, and as a package; and what the systemd unit runs, with a socket.
 "$here/tools/install" --prefix 'in stalled'
 is 'the installed program' "nbdj $version" "$('in stalled/bin/nbdj' --version)"
-is 'the installed man pages' 'man1/nbdj-server.1 man1/nbdj.1 man8/nbdj-standby.8' "$(cd 'in stalled/share/man' && echo man?/*)"
+is 'the installed man pages' 'man1/nbdj-server.1 man1/nbdj.1 man8/nbdj-standby.8' "$(cd 'in stalled/share/man' && LC_ALL=C sh -c 'echo man?/*')"
 is 'the installed completion' yes "$([ -s 'in stalled/share/bash-completion/completions/nbdj' ] && echo yes)"
 unit='in stalled/lib/systemd/system/nbdj@.service'
 is 'the program of the unit' "ExecStart=\"$folder/in stalled/bin/nbdj-server\"" "$(sed -n 's/^\(ExecStart="[^"]*"\) .*/\1/p' "$unit")"
