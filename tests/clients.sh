@@ -652,6 +652,8 @@ file_system() {
     is 'e2fsck of the file' 0 "$(quiet e2fsck -fn export/nbd)"
     if mount -t ext4 -o loop export/nbd mount 2>/dev/null; then
         mounted=$folder/mount
+        # (a loop device keeps this when it gets another file: with `write through` the kernel would send no flushes)
+        echo 'write back' >"/sys/block/$(basename "$(findmnt -n -o SOURCE "$mounted")")/queue/write_cache"
         for k in 1 2 3 4; do
             cp tree/below/file_$k mount/synced_$k
             sync mount/synced_$k mount

@@ -241,6 +241,7 @@ class Chain:
 
     def take_down(self):
         unmount(self.mount)
+        self.set_cache("write back")
         run(["losetup", "-d", self.loop], check=False)
         unmount_export(f"{self.folder}/front", self.front)
         if self.server.poll() is None:
