@@ -136,8 +136,9 @@ called '' check d.img
 made 'the calls of a check' ''
 
 # A recovery closes the first gate of the other area and syncs. The header with both areas goes to slot 1, whose gate is closed: body, sync,
-# gate, sync. The puts are copied, each longest run of blocks in one write; then the map with a sync; then the header with only the second
-# area, to slot 0, whose gate is closed first.
+# gate, sync. The puts are copied, each longest run of blocks in one write. After each the system is told that the last byte of a page and the
+# first of the next aren't needed: so it begins to write both, and drops neither from its cache. Then the map with a sync; then the header with
+# only the second area, to slot 0, whose gate is closed first.
 recovery_calls='fdatasync
 pwrite 2105344 1
 fdatasync
@@ -146,8 +147,11 @@ fdatasync
 pwrite 4096 1
 fdatasync
 pwrite 4210688 4096
+posix_fadvise 4214783 2
 pwrite 4218880 8192
+posix_fadvise 4222975 2
 pwrite 4251648 8192
+posix_fadvise 4255743 2
 pwrite 4206592 4096
 fdatasync
 pwrite 0 1
@@ -176,6 +180,12 @@ called '' recover d.img
 is 'a recovery' "0|$(text 'commands 3')|" "$status|$output|$errors"
 made 'the calls of a recovery' "$recovery_calls"
 recovered 'a recovery'
+# Advice that is refused changes nothing.
+cp stored.img d.img
+called posix_fadvise recover d.img
+is 'a recovery whose advice is refused' "0|$(text 'commands 3')|" "$status|$output|$errors"
+made 'the calls of a recovery whose advice is refused' "$(printf '%s\n' "$recovery_calls" | sed '/^posix_fadvise/s/$/ failed/')"
+recovered 'a recovery whose advice is refused'
 for fail in 'fdatasync 1' 'pwrite 1' 'fdatasync 2' 'pwrite 2' 'fdatasync 3' 'pwrite 3' 'fdatasync 4' 'pwrite 4' 'pwrite 5' 'pwrite 6' 'pwrite 7' 'fdatasync 5' \
     'pwrite 8' 'fdatasync 6' 'pwrite 9' 'fdatasync 7' 'pwrite 10' 'fdatasync 8'; do
     cp stored.img d.img

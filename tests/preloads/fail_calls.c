@@ -1,9 +1,10 @@
-/* A preload that notes each `pwrite` and `fdatasync`, and can make calls fail.
+/* A preload that notes each `pwrite`, `fdatasync` and `posix_fadvise`, and can make calls fail.
  *
- * For each it adds a line to the file CALLS_LOG: 'pwrite OFFSET COUNT' or 'fdatasync'. If FAIL_CALL is 'pwrite N' or 'fdatasync N', the N-th such
- * call, counted from 1, does nothing and fails with EIO; its line ends in ' failed'. If it is 'flock N' or 'ftruncate N', that call fails with
- * ENOLCK or EFBIG, as on a file system without locks, or for a length that is too large; these calls aren't noted. If BAD_BYTE is a number, each
- * `pread` that touches the byte at this offset fails with EIO, like a sector that can't be read; these aren't noted either. */
+ * For each it adds a line to the file CALLS_LOG: 'pwrite OFFSET COUNT', 'fdatasync' or 'posix_fadvise OFFSET COUNT'. If FAIL_CALL is 'pwrite
+ * N' or 'fdatasync N', the N-th such call, counted from 1, does nothing and fails with EIO; its line ends in ' failed'. If it is
+ * 'posix_fadvise', all of these fail. If it is 'flock N' or 'ftruncate N', that call fails with ENOLCK or EFBIG, as on a file system without
+ * locks, or for a length that is too large; these calls aren't noted. If BAD_BYTE is a number, each `pread` that touches the byte at this
+ * offset fails with EIO, like a sector that can't be read; these aren't noted either. */
 #define _GNU_SOURCE
 #include <dlfcn.h>
 #include <errno.h>
@@ -19,12 +20,14 @@ static ssize_t (*next_pwrite)(int, const void *, size_t, off_t);
 static int (*next_fdatasync)(int);
 static int (*next_flock)(int, int);
 static int (*next_ftruncate)(int, off_t);
+static int (*next_advise)(int, off_t, off_t, int);
 
 static int notes = -1;
 static unsigned long fail_write;
 static unsigned long fail_sync;
 static unsigned long fail_lock;
 static unsigned long fail_length;
+static int fail_advice;
 static long long bad_byte = -1;
 static unsigned long writes;
 static unsigned long syncs;
@@ -37,6 +40,7 @@ __attribute__((constructor)) static void start(void) {
     next_fdatasync = (int (*)(int))dlsym(RTLD_NEXT, "fdatasync");
     next_flock = (int (*)(int, int))dlsym(RTLD_NEXT, "flock");
     next_ftruncate = (int (*)(int, off_t))dlsym(RTLD_NEXT, "ftruncate");
+    next_advise = (int (*)(int, off_t, off_t, int))dlsym(RTLD_NEXT, "posix_fadvise");
     const char *path = getenv("CALLS_LOG");
     if (path) {
         notes = open(path, O_WRONLY | O_CREAT | O_APPEND, 0600);
@@ -54,6 +58,8 @@ __attribute__((constructor)) static void start(void) {
         fail_lock = strtoul(fail + 6, NULL, 10);
     } else if (fail && strncmp(fail, "ftruncate ", 10) == 0) {
         fail_length = strtoul(fail + 10, NULL, 10);
+    } else if (fail && strcmp(fail, "posix_fadvise") == 0) {
+        fail_advice = 1;
     }
 }
 
@@ -102,6 +108,17 @@ int fdatasync(int file) {
         return -1;
     }
     return next_fdatasync(file);
+}
+
+int posix_fadvise(int file, off_t offset, off_t count, int advice) {
+    char line[64];
+    snprintf(line, sizeof line, "posix_fadvise %lld %lld", (long long)offset, (long long)count);
+    note(line, fail_advice);
+    return fail_advice ? EIO : next_advise(file, offset, count, advice);
+}
+
+int posix_fadvise64(int file, off_t offset, off_t count, int advice) {
+    return posix_fadvise(file, offset, count, advice);
 }
 
 int flock(int file, int how) {

@@ -210,7 +210,7 @@ const CACHE: ArgumentRow<'static> = ArgumentRow {
     name: "cache",
     form: Form::ValueOr("MODE", "writeback", CACHE_MODES),
     tie: Tie::None,
-    help: "`writeback`: a write is answered at once, a FLUSH once all before it is stored; `writethrough`: a write is answered once it is stored; `ordered`: a FLUSH does not make anything durable, and is answered at once",
+    help: "`writeback`: a write is answered at once, a FLUSH once earlier writes are durable; `writethrough`: a write is answered once it is durable; `ordered`: a FLUSH does not make anything durable, and is answered at once",
 };
 
 // The modes of `--cache`.
@@ -403,7 +403,7 @@ pub static SERVE: SubcommandRow<'static> = SubcommandRow {
             name: "device-timeout",
             form: Form::TextOr("SECONDS", "0"),
             tie: Tie::None,
-            help: "Ends the server with status 1 if a device call takes more seconds: 0.001 to 86400, as 0.1, or 0 for no limit",
+            help: "Drops clients and exits (status 1) if a device call takes more seconds: 0.001 to 86400, as 0.1, or 0 for no limit",
         },
         ArgumentRow {
             name: "lock-check",
@@ -460,7 +460,7 @@ static PIPE: SubcommandRow<'static> = SubcommandRow {
 
 static RECOVER: SubcommandRow<'static> = SubcommandRow {
     name: "recover",
-    about: "Recovers the image and prints the number of its last command",
+    about: "Recovers the image and prints the number of its last write",
     after_help: "Example: nbdj recover d.img\n\nThe journal is copied into the image, and is empty afterwards. A kill or a power cut loses nothing.\n\nExit status: 0 done; 1 a fault of file, image, device or memory; 2 a refused command line; 4 a file or a device in use.",
     usage: None,
     arguments: &[PATH, JSON, WAIT_LOCK, VERBOSE],

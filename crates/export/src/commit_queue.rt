@@ -34,8 +34,8 @@ use std::alloc::Global;
 use std::rt::Clock;
 use std::time::{Duration, Instant};
 
-/// Pending commands of more bytes than these are stored though nobody waits for them.
-const MOST_PENDING_BYTES: u64 = 4_194_304;
+/// If pending commands have more bytes than this, they are stored though nobody waits for them.
+const STORE_ABOVE_BYTES: u64 = 4_194_304;
 
 /// The most bytes that a write adds to what is pending, besides its data: the bytes round a command's data, and those of the two blocks
 /// that it may touch in part.
@@ -78,7 +78,7 @@ pub(crate) struct CommitQueue<B: ExportName> {
     // Whether a command had no room, and no checkpoint has ended since.
     lacks_room: bool,
     // Whether a checkpoint is wanted, once all up to this number is stored.
-    wish: Option<u64>,
+    checkpoint_after: Option<u64>,
     // Whether no group will be stored any more.
     flusher_ended: bool,
     // Whether memory has been refused for so long that nobody is to wait for the next group, or for a copy of the journal.
@@ -109,7 +109,7 @@ impl<B: ExportName> Drop for CommitQueue<B> {
             calls_flusher: _,
             is_full: _,
             lacks_room: _,
-            wish: _,
+            checkpoint_after: _,
             flusher_ended: _,
             cannot_store: _,
             cannot_copy: _,
@@ -174,7 +174,7 @@ impl<B: ExportName> CommitQueue<B> {
             calls_flusher: false,
             is_full: false,
             lacks_room: false,
-            wish: None,
+            checkpoint_after: None,
             flusher_ended: false,
             cannot_store: false,
             cannot_copy: false,
@@ -266,7 +266,7 @@ impl<B: ExportName> CommitQueue<B> {
         ensures unchanged { OnErr result ((self.new.order ≡ self.old.order) × (pass.new ≡ pass.old)) }
         ensures rest { (self.new.frames ≡ self.old.frames) × (self.new.passes ≡ self.old.passes) × (self.new.wanted ≡ self.old.wanted)
             × (self.new.waiters ≡ self.old.waiters) × (self.new.is_storing ≡ self.old.is_storing) × (self.new.calls_flusher ≡ self.old.calls_flusher) × (self.new.is_full ≡ self.old.is_full) × (self.new.lacks_room ≡ self.old.lacks_room)
-            × (self.new.wish ≡ self.old.wish) × (self.new.flusher_ended ≡ self.old.flusher_ended) × (self.new.cannot_store ≡ self.old.cannot_store) × (self.new.cannot_copy ≡ self.old.cannot_copy) × (self.new.most_pending ≡ self.old.most_pending) × (self.new.interval ≡ self.old.interval)
+            × (self.new.checkpoint_after ≡ self.old.checkpoint_after) × (self.new.flusher_ended ≡ self.old.flusher_ended) × (self.new.cannot_store ≡ self.old.cannot_store) × (self.new.cannot_copy ≡ self.old.cannot_copy) × (self.new.most_pending ≡ self.old.most_pending) × (self.new.interval ≡ self.old.interval)
             × (self.new.throttle ≡ self.old.throttle) × (self.new.notes ≡ self.old.notes) }
     {
         if planned.noted_base.number != self.noted_base.number {
@@ -461,20 +461,20 @@ impl<B: ExportName> CommitQueue<B> {
         ensures order { self.new.order ≡ self.old.order }
         ensures limit { self.new.most_pending ≡ self.old.most_pending }
     {
-        if self.wish.is_none() {
+        if self.checkpoint_after.is_none() {
             let through = self.order.order().mark();
-            self.wish = Some(through);
+            self.checkpoint_after = Some(through);
             self.want(through);
         }
     }
 
-    /// Wants a checkpoint if a quarter of the frames is dirty; whether it is wanted from now on. If no area waits to be copied, these
-    /// were dirtied since one was last taken into use; if one does, no other comes into use because of it.
-    pub(crate) fn check_dirty_frames(&mut self) -> bool
+    /// Wants a checkpoint if a quarter of the frames is dirty; whether it is wanted from now on. While an area waits to be copied, this
+    /// takes no other into use.
+    pub(crate) fn request_if_dirty(&mut self) -> bool
         ensures noted_base { self.new.noted_base ≡ self.old.noted_base }
         ensures limit { self.new.most_pending ≡ self.old.most_pending }
     {
-        if self.wish.is_some() || !self.has_dirtied_many() {
+        if self.checkpoint_after.is_some() || !self.has_dirtied_many() {
             return false;
         }
         self.request_checkpoint();
@@ -503,7 +503,7 @@ impl<B: ExportName> CommitQueue<B> {
     /// Whether there are enough pending bytes to store them though nobody waits for them: more than the usual limit, or than half of the
     /// most that may be pending.
     pub(crate) fn has_much_pending(&self) -> bool {
-        self.order.order().backlog_bytes() > MOST_PENDING_BYTES.min(self.most_pending / 2)
+        self.order.order().backlog_bytes() > STORE_ABOVE_BYTES.min(self.most_pending / 2)
     }
 
     /// Whether to wake the flusher, and the checkpointer, once a request was served: both if a checkpoint is wanted from now on, and the
@@ -512,8 +512,8 @@ impl<B: ExportName> CommitQueue<B> {
         ensures noted_base { self.new.noted_base ≡ self.old.noted_base }
         ensures limit { self.new.most_pending ≡ self.old.most_pending }
     {
-        let is_due = self.check_dirty_frames();
-        let first = self.is_pending() && self.interval.tell_first();
+        let is_due = self.request_if_dirty();
+        let first = self.is_pending() && self.interval.take_awaits_first();
         (is_due || first || self.has_much_pending(), is_due)
     }
 
@@ -552,7 +552,7 @@ impl<B: ExportName> CommitQueue<B> {
 
     /// Whether a checkpoint is to be begun: what it is to free is stored, or as much of it as the area takes.
     pub(crate) fn is_checkpoint_due(&self) -> bool {
-        match self.wish {
+        match self.checkpoint_after {
             Some(through) => self.is_full || through <= self.order.order().durable(),
             None => false,
         }
@@ -560,7 +560,7 @@ impl<B: ExportName> CommitQueue<B> {
 
     /// Whether a checkpoint is wanted.
     pub(crate) fn wants_checkpoint(&self) -> bool {
-        self.wish.is_some()
+        self.checkpoint_after.is_some()
     }
 
     /// Whether no group will be stored any more.
@@ -595,7 +595,7 @@ impl<B: ExportName> CommitQueue<B> {
     }
 
     /// Whether all passes have left.
-    pub(crate) fn is_left(&self) -> bool {
+    pub(crate) fn have_all_left(&self) -> bool {
         self.passes == 0
     }
 
@@ -707,7 +707,7 @@ impl<B: ExportName> CommitQueue<B> {
         ensures noted_base { self.new.noted_base ≡ self.old.noted_base }
         ensures limit { self.new.most_pending ≡ self.old.most_pending }
     {
-        engine.publish(board, &mut self.order);
+        self.order.publish(board, &mut engine.shared);
         self.is_storing = false;
         let is_pending = self.is_pending();
         self.notes.publish(is_pending);
@@ -716,7 +716,7 @@ impl<B: ExportName> CommitQueue<B> {
         if engine.is_filling() {
             self.request_checkpoint();
         }
-        self.check_dirty_frames();
+        self.request_if_dirty();
         self.wants_checkpoint()
     }
 
@@ -764,7 +764,7 @@ impl<B: ExportName> CommitQueue<B> {
             calls_flusher: _,
             is_full: _,
             lacks_room: _,
-            wish: _,
+            checkpoint_after: _,
             flusher_ended: _,
             cannot_store: _,
             cannot_copy: _,
@@ -802,7 +802,7 @@ impl<B: ExportName> CommitQueue<B> {
         ensures limit { self.new.most_pending ≡ self.old.most_pending }
     {
         self.lacks_room = false;
-        self.wish = None;
+        self.checkpoint_after = None;
         if self.is_full {
             self.request_checkpoint();
         }

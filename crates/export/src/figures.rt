@@ -22,7 +22,7 @@ pub struct ExportFigures {
     pub accepted: u64,
     /// The number of the last command that is stored with all before it.
     pub durable: u64,
-    /// How many commands were accepted and aren't stored: a power cut would take them.
+    /// How many commands were accepted and aren't durable: a power cut may take them.
     pub pending_commands: u64,
     /// Their bytes in the journal.
     pub pending_bytes: u64,

@@ -29,12 +29,12 @@ enum Flush<B: ExportName> {
 }
 
 impl<B: ExportName, D: Disk, H: ReadUnlocked, T: Trust> Export<B, D, H, T> {
-    /// Stores a group of commands when a request waits for one, when more than 4 MiB are pending, when a command had no room,
+    /// Stores a group of commands when a request waits for one, when much is pending, when a command had no room,
     /// when one was pending for as long as `store_within` says, and once all passes have left. It ends when all have left and
     /// nothing is pending, or when a call of the device has failed.
     ///
     /// If memory runs out it tries again, with longer and longer waits of up to a second. After one second of that, requests that
-    /// wait for room get ENOMEM and those that wait to be stored get EIO, until a group is stored. After ten seconds, if all passes
+    /// wait for room get ENOMEM and those that wait to be stored get EIO, until a step succeeds. After ten seconds, if all passes
     /// have left, it ends, and the pending commands are lost.
     ///
     /// A thread that waits alone stores the next group itself, if nothing else calls the flusher. If storing a group takes long and
@@ -103,7 +103,7 @@ impl<B: ExportName, D: Disk, H: ReadUnlocked, T: Trust> Export<B, D, H, T> {
         let mut queue = self.queue.lock(rt);
         queue.set_cannot_store(true);
         self.signals.progress.notify_all();
-        queue.is_stopped() || (queue.is_left() && retries.is_hopeless())
+        queue.is_stopped() || (queue.have_all_left() && retries.is_hopeless())
     }
 
     // Seals the next group that is to be stored, where there is one, else it waits for a while.
@@ -184,7 +184,7 @@ impl<B: ExportName, D: Disk, H: ReadUnlocked, T: Trust> Export<B, D, H, T> {
         }
     }
 
-    // Stores a group under the keeper's lock. It comes back if memory is refused.
+    // Stores a group under the keeper's lock, makes it pending again if the area is full, or fails. It comes back if memory is refused.
     fn store_group<R: Wait + Clock, G: SyncPoints>(
         &self,
         rt: &R,

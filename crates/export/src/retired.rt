@@ -1,7 +1,7 @@
 use marks::{BoardName, Pass, Roster};
 use std::marker::Model;
 
-/// The pass of a client that has left an export: no request is submitted for it any more. It knows what it knew.
+/// The pass of a client that has left an export: no request is submitted for it any more. It may still learn.
 #[derive(Drop)]
 pub struct RetiredPass<B: BoardName> {
     pub(crate) pass: Pass<B>,

@@ -1,13 +1,12 @@
 //! The state under the keeper lock.
-ghost use Rattle.std.specs.Prelude.{◌≡◌, ◌+◌, ◌<◌};
-ghost use Rattle.order_book.specs.Order.{with_durable};
+ghost use Rattle.std.specs.Prelude.{◌≡◌};
 
 use crate::name::ExportName;
 use checkpoint::KeeperFault;
 use disk_model::Disk;
 use journal::Group;
 use marks::{Board, Trust};
-use shared_store::{SealedGroup, SharedKeeper, SharedOrder, Unstored};
+use shared_store::{SealedGroup, SharedKeeper, Unstored};
 
 /// The most blocks that are copied in a hold of the keeper's lock: 1 MiB.
 const MOST_COPIED: u32 = 256;
@@ -206,12 +205,5 @@ impl<B: ExportName, D: Disk> StorageEngine<B, D> {
             }
         }
         Ok(CopyStep::Blocks(MOST_COPIED.saturating_sub(left) as u64))
-    }
-
-    /// Makes durable in the order what is stored.
-    pub(crate) fn publish<T: Trust>(&mut self, board: &Board<B, T>, order: &mut SharedOrder<B>)
-        ensures { order.new ≡ with_durable order.old self.old.shared.keeper.count }
-    {
-        order.publish(board, &mut self.shared);
     }
 }

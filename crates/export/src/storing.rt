@@ -39,8 +39,8 @@ impl FlushInterval {
         }
     }
 
-    /// Whether the flusher waits to be told of a first command, which it then is.
-    pub(crate) fn tell_first(&mut self) -> bool {
+    /// Whether the flusher waits for a first command. If so, the caller wakes it.
+    pub(crate) fn take_awaits_first(&mut self) -> bool {
         let awaits = self.awaits_first;
         self.awaits_first = false;
         awaits

@@ -47,6 +47,11 @@ impl CopyProgress {
         (JOURNAL_FROM..self.journal_end).contains(&offset)
     }
 
+    /// Whether the blocks of the image stand there.
+    pub(crate) fn is_in_data(&self, offset: u64) -> bool {
+        offset >= self.data_from
+    }
+
     /// Notes that bytes were read.
     pub(crate) fn note_read(&self, offset: u64, bytes: usize) {
         if self.copied.get() == 0 && self.is_in_journal(offset) {
@@ -60,7 +65,7 @@ impl CopyProgress {
         if self.is_over.get() {
             return;
         }
-        if offset >= self.data_from {
+        if self.is_in_data(offset) {
             self.note_copy(bytes);
         } else if offset < JOURNAL_FROM {
             self.finish();

@@ -5,6 +5,7 @@ use crate::progress::{Progress, Work};
 use std::cell::Cell;
 use std::fs::{File, Metadata, OpenFile};
 use std::io;
+use std::os::fd::{AsRawFd, RawFd};
 use std::os::unix::fs::{FileExt, MetadataExt};
 
 // The unit in which the system tells how much of a file is allocated.
@@ -134,5 +135,11 @@ impl OpenFile for FreshFile {
 
     fn sync_data(&self) -> io::Result<()> {
         OpenFile::sync_data(&self.file)
+    }
+}
+
+impl AsRawFd for FreshFile {
+    fn as_raw_fd(&self) -> RawFd {
+        self.file.as_raw_fd()
     }
 }

@@ -12,6 +12,7 @@ mod noted;
 mod progress;
 mod streams;
 mod told;
+mod writing_out;
 
 pub use contents::Content;
 pub use devices::Locks;

@@ -1,10 +1,12 @@
 use crate::copying::CopyProgress;
 use crate::noted::{FRONT_BYTES, HeaderSlots};
+use crate::writing_out::begin_writing;
 use image_model::Geometry;
 use std::cell::Cell;
 use std::fmt::Display;
 use std::fs::{Metadata, OpenFile};
 use std::io::{self, ErrorKind};
+use std::os::fd::AsRawFd;
 use std::os::unix::fs::FileExt;
 
 /// Takes the lines about a file.
@@ -23,9 +25,9 @@ impl FileLines for HostRuntime {
 /// A device's file of which the first call that fails is told, with what was tried and why it failed.
 ///
 /// A write into the header slots of an image fails if they aren't as this process has found or left them: something else has written
-/// to the image.
+/// to the image. After a write of blocks the system begins to write them to the disk.
 #[derive(Drop)]
-pub struct ToldFile<'a, F: FileExt + OpenFile + Drop, L: FileLines + Drop> {
+pub struct ToldFile<'a, F: FileExt + OpenFile + AsRawFd + Drop, L: FileLines + Drop> {
     file: F,
     path: &'a str,
     lines: L,
@@ -47,7 +49,7 @@ const FULL: &str =
 const OVERWRITTEN: &str =
     "the header isn't the one this process wrote last: something else has written to this image";
 
-impl<'a, F: FileExt + OpenFile + Drop, L: FileLines + Drop> ToldFile<'a, F, L> {
+impl<'a, F: FileExt + OpenFile + AsRawFd + Drop, L: FileLines + Drop> ToldFile<'a, F, L> {
     /// The file at this path. Its faults are told if `tells` is set; `holds_image` says whether it holds an image already.
     pub fn new(
         lines: L,
@@ -152,7 +154,7 @@ impl<'a, F: FileExt + OpenFile + Drop, L: FileLines + Drop> ToldFile<'a, F, L> {
     }
 }
 
-impl<'a, F: FileExt + OpenFile + Drop, L: FileLines + Drop> FileExt for ToldFile<'a, F, L> {
+impl<'a, F: FileExt + OpenFile + AsRawFd + Drop, L: FileLines + Drop> FileExt for ToldFile<'a, F, L> {
     fn read_at(&self, buf: &mut [u8], offset: u64) -> io::Result<usize> {
         let wanted = buf.len();
         let read = self.file.read_at(buf, offset);
@@ -172,6 +174,9 @@ impl<'a, F: FileExt + OpenFile + Drop, L: FileLines + Drop> FileExt for ToldFile
                 self.note(offset, &buf[..*count]);
                 if let Some(copying) = &self.copying {
                     copying.note_write(offset, *count);
+                    if copying.is_in_data(offset) {
+                        begin_writing(&self.file, offset, *count);
+                    }
                 }
             }
             Err(error) => self.tell_of("write", buf.len(), offset, error),
@@ -180,7 +185,7 @@ impl<'a, F: FileExt + OpenFile + Drop, L: FileLines + Drop> FileExt for ToldFile
     }
 }
 
-impl<'a, F: FileExt + OpenFile + Drop, L: FileLines + Drop> OpenFile for ToldFile<'a, F, L> {
+impl<'a, F: FileExt + OpenFile + AsRawFd + Drop, L: FileLines + Drop> OpenFile for ToldFile<'a, F, L> {
     fn metadata(&self) -> io::Result<Metadata> {
         self.file.metadata()
     }

@@ -1,5 +1,5 @@
 -- What seats know keeps fitting a board as the history and the numbers grow, and as seats come, hear and are spent.
-use Rattle.std.proofs.Common.{◌≡◌, ◌≢◌, ℕ, zero, suc, ◌+◌, ◌≤◌, ◌⊎◌, List, [], ◌∷◌, ◌++◌, length, set, refl, sym, ap, ◌∙◌, subst, ⊎_elim, inl, inr, arith, false}
+use Rattle.std.proofs.Common.{◌≡◌, ◌≢◌, ℕ, zero, suc, ◌+◌, ◌≤◌, ◌⊎◌, List, [], ◌∷◌, ◌++◌, length, replicate, get_or, set, refl, sym, ap, ◌∙◌, subst, ⊎_elim, inl, inr, arith, false}
 use mathlib.Core.Option.{some, some-injective, some-ne-none}
 use mathlib.Core.List.{IsPrefix}
 use lib.ListN.{get_elem?}
@@ -64,7 +64,32 @@ each_set old new id w views more same mine each seat view at =
     (at_set views id seat w view at)
 
 abbrev pub words_of : World → List ℕ
-words_of w = (w.opening + length w.history) ∷ w.durable ∷ 0 ∷ []
+words_of w = (w.opening + length w.history) ∷ w.durable ∷ replicate 526 0
+
+abbrev zeroes : ℕ → List ℕ
+zeroes n = replicate n 0
+
+-- a word that is 0 is 0 after an exchange of 0 for 0
+set_quiet : (n i : ℕ) → set (zeroes n) i 0 ≡ zeroes n
+set_quiet zero i = refl
+set_quiet (suc n) zero = refl
+set_quiet (suc n) (suc i) = ap (λ (ws : List ℕ). 0 ∷ ws) (set_quiet n i)
+
+get_quiet : (n i : ℕ) → get_or (zeroes n) i 0 ≡ 0
+get_quiet zero i = refl
+get_quiet (suc n) zero = refl
+get_quiet (suc n) (suc i) = get_quiet n i
+
+-- all words after the first two are 0, and so they stay
+pub quiet_stay : (w : World) (i : ℕ) → 2 ≤ i → set (words_of w) i 0 ≡ words_of w
+quiet_stay w zero above = absurd (omega (arith, above))
+quiet_stay w (suc zero) above = absurd (omega (arith, above))
+quiet_stay w (suc (suc i)) above = ap (λ (ws : List ℕ). (w.opening + length w.history) ∷ w.durable ∷ ws) (set_quiet 526 i)
+
+pub quiet_at : (w : World) (i : ℕ) → 2 ≤ i → get_or (words_of w) i 0 ≡ 0
+quiet_at w zero above = absurd (omega (arith, above))
+quiet_at w (suc zero) above = absurd (omega (arith, above))
+quiet_at w (suc (suc i)) above = get_quiet 526 i
 
 -- what a list that is one longer has at a place was there before, or stands at its end
 pub at_end : (l : List View) (a v : View) (i : ℕ) → get_elem? (l ++ a ∷ []) i ≡ some v → (get_elem? l i ≡ some v) ⊎ ((i ≡ length l) × (a ≡ v))
@@ -175,10 +200,10 @@ abbrev pub world_at : ℕ → World
 world_at number = record { opening = number; history = []; durable = number; base = number; order = 0; keeper = 0 }
 
 -- a board that opens with a number
-pub opens : (logs trusted : Type 0) (mode : Mode) (image : Image) (number : ℕ) → IsBoard logs trusted mode image (opening (number ∷ number ∷ 0 ∷ []) [] (first_view number))
+pub opens : (logs trusted : Type 0) (mode : Mode) (image : Image) (number : ℕ) → IsBoard logs trusted mode image (opening (number ∷ number ∷ replicate 526 0) [] (first_view number))
 opens logs trusted mode image number = record {
   world = world_at number;
-  words = ap (λ (k : ℕ). k ∷ number ∷ 0 ∷ []) (omega arith);
+  words = ap (λ (k : ℕ). k ∷ number ∷ replicate 526 0) (omega arith);
   ordered = omega arith;
   each = λ seat view at.
       ⊎_elim (λ none_there. absurd (some-ne-none view (sym none_there)))

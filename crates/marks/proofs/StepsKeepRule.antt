@@ -1,5 +1,5 @@
 -- Each step on a board keeps its rule.
-use Rattle.std.proofs.Common.{◌≡◌, ◌≢◌, ℕ, ◌+◌, ◌-◌, ◌≤◌, max, eqb, true, false, List, [], ◌∷◌, ◌++◌, length, length-append, take, get_or, set, refl, sym, ap, ◌∙◌, subst, arith, eq-eqb, eqb-true, Bool}
+use Rattle.std.proofs.Common.{◌≡◌, ◌≢◌, ℕ, ◌+◌, ◌-◌, ◌≤◌, max, eqb, true, false, List, [], ◌∷◌, ◌++◌, length, length-append, replicate, take, get_or, set, refl, sym, ap, ◌∙◌, subst, arith, eq-eqb, eqb-true, Bool}
 use Rattle.std.proofs.lemmas.List.{length-take-le}
 use mathlib.Core.Option.{none, some}
 use mathlib.Core.List.{IsPrefix}
@@ -26,7 +26,7 @@ use Rattle.marks.specs.Rule.{AreGathered, Fits, IsBoard, Room, World}
 use Rattle.marks.specs.Seats.{calls_of, roster_of}
 use Rattle.marks.specs.inner.Steps.{Awaits, LooksAccepted, LooksDurable, TakesIn, RaisesAccepted, RaisesDurable, RaisesBase, Replies, Sends, gathering, keeper_only, learning_base, hearing, made_by, making, nothing, order_only, own_after, taking_in, taking_keeper, taking_order, telling, without_keeper, without_order}
 use Rattle.marks.specs.laws.Beginnings.{longer_of, prefix_length, prefix_none, prefix_of_append, prefix_self, prefix_shorter, prefix_take, prefix_trans}
-use Rattle.marks.proofs.SeatsFitBoard.{Grows, Log, Table, at_end, join_to, looked, moved, split_to, there_still}
+use Rattle.marks.proofs.SeatsFitBoard.{Grows, Log, Table, at_end, join_to, looked, moved, quiet_at, quiet_stay, split_to, there_still}
 use Rattle.marks.proofs.ClientsFitLog.{SameLog, log_accepted, log_flushed, log_gathered, log_join, log_made, log_replied, log_same, log_sent, log_split, log_stored}
 
 same_log : (v : View) → SameLog v v
@@ -73,8 +73,8 @@ module _ (logs trusted : Type 0) (mode : Mode) (image : Image) where
   durable_word : (s : Table) (b : Here s) → b.world.durable ≡ get_or s.words 1 0
   durable_word s b = sym (ap (λ (ws : List ℕ). get_or ws 1 0) b.words)
 
-  quiet_word : (s : Table) (b : Here s) → 0 ≡ get_or s.words 2 0
-  quiet_word s b = sym (ap (λ (ws : List ℕ). get_or ws 2 0) b.words)
+  quiet_word : (s : Table) (b : Here s) (i : ℕ) → 2 ≤ i → 0 ≡ get_or s.words i 0
+  quiet_word s b i above = sym (ap (λ (ws : List ℕ). get_or ws i 0) b.words ∙ quiet_at b.world i above)
 
   -- the log stays as it is where a seat's view is the same as far as that is concerned
   stays_log : (s : Table) (b : Here s) (id : ℕ) (v w : View) → get_elem? s.views id ≡ some v → SameLog v w → length v.seen ≤ length w.seen → IsPrefix w.seen b.world.history
@@ -198,7 +198,7 @@ module _ (logs trusted : Type 0) (mode : Mode) (image : Image) where
       λ kept. log_accepted trusted mode image old.opening old.history old.durable s.views (b.logged kept) id me.0 w change at
       (subst (λ (h : List Change). HasAsked trusted image h change me.0.client) own.1 (asked kept)) mine.seen refl refl refl (ap (λ (k : ℕ). accepting mode (k + 1) me.0.client) (sym hit)) same in
       let after : Here (stepped s 0 (last + 1) id me.1 w keeps) =
-      moved logs trusted mode image s b new 0 (last + 1) id me.1 w (ap (λ (k : ℕ). k ∷ old.durable ∷ 0 ∷ []) (omega (arith, longer_is, hit))) (omega (arith, longer_is, ordered)) grows
+      moved logs trusted mode image s b new 0 (last + 1) id me.1 w (ap (λ (k : ℕ). k ∷ old.durable ∷ replicate 526 0) (omega (arith, longer_is, hit))) (omega (arith, longer_is, ordered)) grows
       (λ seat other. record { order = λ is_order. absurd (other (is_order ∙ sym own.0)); keeper = λ _. (refl, refl) }) fits log in
       subst (Owes s id me 0 (λ n. either (eqb n last) (last + 1) n) (RaisesAccepted mode (step slots 0 last (last + 1) (some (Adds command))) me)) (accepted_word s b)
       (w, keeps, tt, subst (λ c. Here (stepped s 0 (either c (last + 1) n) id me.1 w keeps)) (sym (eq-eqb n last hit)) after, refl)
@@ -257,14 +257,14 @@ module _ (logs trusted : Type 0) (mode : Mode) (image : Image) where
         w,
         keeps,
         tt,
-        moved logs trusted mode image s b new 1 (either (eqb old.durable k) k old.durable) id me.1 w (ap (λ (n : ℕ). (old.opening + length old.history) ∷ n ∷ 0 ∷ []) (stays old.durable k)) ordered grows
+        moved logs trusted mode image s b new 1 (either (eqb old.durable k) k old.durable) id me.1 w (ap (λ (n : ℕ). (old.opening + length old.history) ∷ n ∷ replicate 526 0) (stays old.durable k)) ordered grows
             (λ seat other. record { order = λ _. refl; keeper = λ is_keeper. absurd (other (is_keeper ∙ sym own.0)) }) fits log,
         refl,
       )
 
-  pub sends : (slots id : ℕ) (me : Mine) (by : ℕ) (request : Message) → me.0.client.speaks ≡ true → me.0.client.state ≡ Idle
-      → Allows Here slots id me 2 (λ n. either (eqb n 0) 0 n) (Sends (step slots 2 0 0 (some (Speaks (Sent by request)))) me)
-  sends slots id me by request speaks idle s b long at small =
+  pub sends : (slots id : ℕ) (me : Mine) (i by : ℕ) (request : Message) → 2 ≤ i → me.0.client.speaks ≡ true → me.0.client.state ≡ Idle
+      → Allows Here slots id me i (λ n. either (eqb n 0) 0 n) (Sends (step slots i 0 0 (some (Speaks (Sent by request)))) me)
+  sends slots id me i by request above speaks idle s b long at small =
       let mine = b.each id me.0 at in let old = b.world in let history = old.history in
       let w : View = record me.0 { seen = history; client = sending me.0.client request } in
       let fits : Fits old id w = record {
@@ -280,12 +280,12 @@ module _ (logs trusted : Type 0) (mode : Mode) (image : Image) where
       } in
       let log : Log logs trusted mode image old (set s.views id w) =
       λ kept. log_sent trusted mode image old.opening history old.durable s.views (b.logged kept) id me.0 request at speaks idle in
-      subst (Owes s id me 2 (λ n. either (eqb n 0) 0 n) (Sends (step slots 2 0 0 (some (Speaks (Sent by request)))) me)) (quiet_word s b)
-      (w, keeps, tt, looked logs trusted mode image s b 2 0 id me.1 w refl fits log, record { grows = mine.seen; same = refl })
+      subst (Owes s id me i (λ n. either (eqb n 0) 0 n) (Sends (step slots i 0 0 (some (Speaks (Sent by request)))) me)) (quiet_word s b i above)
+      (w, keeps, tt, looked logs trusted mode image s b i 0 id me.1 w (quiet_stay old i above) fits log, record { grows = mine.seen; same = refl })
 
-  pub replies : (slots id : ℕ) (me : Mine) (by : ℕ) (outcome : Answer) → me.0.client.speaks ≡ true → (logs → MayAnswer trusted image me.0.durable me.0.seen me.0.client.state outcome)
-      → Allows Here slots id me 2 (λ n. either (eqb n 0) 0 n) (Replies (step slots 2 0 0 (some (Speaks (Answered by outcome)))) me)
-  replies slots id me by outcome speaks may s b long at small =
+  pub replies : (slots id : ℕ) (me : Mine) (i by : ℕ) (outcome : Answer) → 2 ≤ i → me.0.client.speaks ≡ true → (logs → MayAnswer trusted image me.0.durable me.0.seen me.0.client.state outcome)
+      → Allows Here slots id me i (λ n. either (eqb n 0) 0 n) (Replies (step slots i 0 0 (some (Speaks (Answered by outcome)))) me)
+  replies slots id me i by outcome above speaks may s b long at small =
       let mine = b.each id me.0 at in let old = b.world in
       let w : View = record me.0 { client = answering me.0.client outcome } in
       let fits : Fits old id w = record {
@@ -301,8 +301,8 @@ module _ (logs trusted : Type 0) (mode : Mode) (image : Image) where
       } in
       let log : Log logs trusted mode image old (set s.views id w) =
       λ kept. log_replied trusted mode image old.opening old.history old.durable s.views (b.logged kept) id me.0 outcome at speaks mine.seen mine.durable (may kept) in
-      subst (Owes s id me 2 (λ n. either (eqb n 0) 0 n) (Replies (step slots 2 0 0 (some (Speaks (Answered by outcome)))) me)) (quiet_word s b)
-      (w, keeps, tt, looked logs trusted mode image s b 2 0 id me.1 w refl fits log, refl)
+      subst (Owes s id me i (λ n. either (eqb n 0) 0 n) (Replies (step slots i 0 0 (some (Speaks (Answered by outcome)))) me)) (quiet_word s b i above)
+      (w, keeps, tt, looked logs trusted mode image s b i 0 id me.1 w (quiet_stay old i above) fits log, refl)
 
   pub awaits : (slots id : ℕ) (me : Mine) → me.0.spent ≡ false → (logs → me.0.client.speaks ≡ true → HasFlushed me.0.client) → Allows Here slots id me 0 (λ n. n) (Awaits mode (step slots 0 0 0 none) me)
   awaits slots id me live asked s b long at small =

@@ -1,6 +1,6 @@
--- The invariant of a board, which each step keeps: its three words, the history, what each seat knows of them, and the log, if one is
--- kept. The third word is always 0: a step that changes no number is an exchange on it.
-use Rattle.std.specs.Prelude.{ℕ, ◌≡◌, ◌≤◌, ◌+◌, ◌<◌, true, false, None, List, [], ◌∷◌, length}
+-- The invariant of a board, which each step keeps: its words, the history, what each seat knows of them, and the log, if one is kept.
+-- All words but the first two are always 0: a step that changes no number is an exchange on one of these.
+use Rattle.std.specs.Prelude.{ℕ, ◌≡◌, ◌≤◌, ◌+◌, ◌<◌, true, false, None, List, [], ◌∷◌, length, replicate}
 use mathlib.Core.Option.{some}
 use mathlib.Core.List.{IsPrefix}
 use lib.ListN.{get_elem?}
@@ -85,7 +85,7 @@ pub record IsLogged (trusted : Type 0) (mode : Mode) (image : Image) (opening : 
 -- what is durable was accepted, and each seat fits
 pub record IsBoard (logs trusted : Type 0) (mode : Mode) (image : Image) (table : State Said View) : Type 0 where
   pub world : World
-  pub words : table.words ≡ (world.opening + length world.history) ∷ world.durable ∷ 0 ∷ []
+  pub words : table.words ≡ (world.opening + length world.history) ∷ world.durable ∷ replicate 526 0
   pub ordered : world.durable ≤ world.opening + length world.history
   pub each : (seat : ℕ) (view : View) → get_elem? table.views seat ≡ some view → Fits world seat view
   pub logged : logs → IsLogged trusted mode image world.opening world.history world.durable table.views

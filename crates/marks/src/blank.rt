@@ -1,7 +1,7 @@
 ghost use Rattle.std.specs.Prelude.{◌≡◌, [], replicate, IfOk};
 ghost use Rattle.marks.specs.Known.{new_pass};
 
-use crate::board::Board;
+use crate::board::{Board, WORDS};
 use crate::name::{BoardName, NoLog, Trust};
 use crate::rule::{GiveKeeper, GiveOrder, Law};
 use crate::said::Said;
@@ -27,7 +27,7 @@ impl<T: Trust> Model for BlankBoard<T> {
 
     ghost view = { λ blank. record { board = blank.table.shared.table_id; opening = blank.seat.me.0.opening } };
 
-    ghost invariant = { λ blank. (blank.table.shared.table_id.words ≡ 3)
+    ghost invariant = { λ blank. (blank.table.shared.table_id.words ≡ 528)
         × (blank.table.shared.table_id.slots ≡ 0)
         × (blank.seat.table_id ≡ blank.table.shared.table_id)
         × (blank.seat.me ≡ (first_view blank.seat.me.0.opening, [])) };
@@ -48,7 +48,10 @@ impl<T: Trust> BlankBoard<T> {
     pub fn new(alloc: Global, opening: u64) -> Result<BlankBoard<T>, AllocError>
         ensures { IfOk result (λ blank. blank.opening ≡ opening) }
     {
-        let (table, seat) = Table::of_words(alloc, &[opening, opening, 0], &opening)?;
+        let mut words = [0; WORDS];
+        words[0] = opening;
+        words[1] = opening;
+        let (table, seat) = Table::of_words(alloc, &words, &opening)?;
         Ok(BlankBoard { table, seat })
     }
 
@@ -103,6 +106,7 @@ impl<T: Trust> BlankBoard<T> {
             },
             Roster {
                 seat,
+                line: 0,
                 of: PhantomData,
             },
         )

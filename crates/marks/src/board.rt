@@ -20,6 +20,10 @@ use nbd_wire::{Answer, Request};
 use std::alloc::{AllocError, Global};
 use std::marker::PhantomData;
 
+/// The words of a board: the two numbers, and those after them, which are always 0. A step that changes no number is an exchange on one
+/// of these. Each client has its own, with 128 bytes from one to the next: two processors never wait for the same piece of a cache.
+pub(crate) const WORDS: usize = 528;
+
 /// Two watermarks that only grow: the number of the last command accepted, and of the last one durable, which is no greater. In the
 /// proofs alone it also has the history, the list of all commands accepted.
 ///
@@ -29,7 +33,7 @@ pub struct Board<B: BoardName, T: Trust = NoLog> {
     pub(crate) table: Table<Said, View, u64, Law<T>, Global>,
     pub(crate) of: PhantomData<B>,
     ghost named: { table.shared.table_id ≡ B.board },
-    ghost three_words: { table.shared.table_id.words ≡ 3 },
+    ghost word_count: { table.shared.table_id.words ≡ 528 },
     ghost no_slots: { table.shared.table_id.slots ≡ 0 },
 }
 
@@ -155,7 +159,7 @@ impl<B: BoardName, T: Trust> Board<B, T> {
         ensures number { pass.new.accepted ≡ B.opening + length pass.new.history }
         ensures pass { pass.new ≡ record pass.old { history = pass.new.history; accepted = pass.new.accepted; client = sending pass.old.client request } }
     {
-        self.send(&mut pass.seat, request)
+        self.send(&mut pass.seat, pass.line, request)
     }
 
     /// A client gets an answer that it may be given, and the answer comes back. That is the log's last event.
@@ -165,7 +169,7 @@ impl<B: BoardName, T: Trust> Board<B, T> {
         ensures same { result ≡ outcome }
         ensures pass { pass.new ≡ record pass.old { client = answering pass.old.client outcome } }
     {
-        self.reply(&mut pass.seat, outcome)
+        self.reply(&mut pass.seat, pass.line, outcome)
     }
 
     /// Makes a pass for a new client, which has sent nothing. The pass knows the number with which the board opened.
@@ -174,8 +178,11 @@ impl<B: BoardName, T: Trust> Board<B, T> {
         ensures pass { result ≡ record (new_pass B.opening) { client = new_client roster.old.made } }
     {
         let seat = self.make(&mut roster.seat);
+        let line = roster.line;
+        roster.line = line.wrapping_add(1);
         Pass {
             seat,
+            line,
             of: PhantomData,
         }
     }
@@ -185,7 +192,11 @@ impl<B: BoardName, T: Trust> Board<B, T> {
         requires speaks { pass.client.speaks ≡ true }
         ensures { roster.new ≡ record roster.old { calls = roster.old.calls ++ record { by = pass.client.by; events = pass.client.mine } ∷ [] } }
     {
-        let Pass { seat, of: _ } = pass;
+        let Pass {
+            seat,
+            line: _,
+            of: _,
+        } = pass;
         self.take_client(&mut roster.seat, seat);
     }
 
@@ -202,7 +213,11 @@ impl<B: BoardName, T: Trust> Board<B, T> {
             seat: stores,
             of: _,
         } = keeper;
-        let Roster { mut seat, of: _ } = roster;
+        let Roster {
+            mut seat,
+            line: _,
+            of: _,
+        } = roster;
         self.take_order(&mut seat, raises);
         self.take_keeper(&mut seat, stores);
         let Board { table, of: _ } = self;
@@ -320,6 +335,7 @@ impl<B: BoardName, T: Trust> Board<B, T> {
         let seat = self.cut(&mut keeper.seat);
         Pass {
             seat,
+            line: 0,
             of: PhantomData,
         }
     }

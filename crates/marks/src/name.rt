@@ -18,7 +18,7 @@ pub trait BoardName {
 impl BoardName for Brand {
     ghost use Rattle.std.specs.Prelude.{[]};
 
-    ghost board = { record { words = 3; slots = 0; views_name = 0; atom = 0; block = 0; offset = 0; slot_names = [] } };
+    ghost board = { record { words = 528; slots = 0; views_name = 0; atom = 0; block = 0; offset = 0; slot_names = [] } };
 
     ghost opening = { 0 };
 }

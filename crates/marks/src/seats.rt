@@ -40,11 +40,13 @@ impl<B: BoardName> Model for KeeperSeat<B> {
     ghost invariant = { λ keeper. IsKeeperSeat B.board B.opening keeper.seat };
 }
 
-/// What a connection knows of the board, and the last number accepted for it with that command. If it is a client's, it also knows what
-/// the client sent and was answered, and its state. It has no bytes.
+/// What a worker knows of the board, and the last number accepted for it with that command. If it is a client's, it also knows what
+/// the client sent and was answered, and its state. It has no bytes but the number of the word that its own steps exchange.
 #[derive(Drop)]
 pub struct Pass<B: BoardName> {
     pub(crate) seat: Seat<Said, View>,
+    // Any number: `quiet_word` makes a word of it.
+    pub(crate) line: usize,
     pub(crate) of: PhantomData<B>,
 }
 
@@ -77,10 +79,12 @@ impl<B: BoardName> Model for Told<B> {
     ghost invariant = { λ told. IsTold B.board B.opening told.seat };
 }
 
-/// The only right to make clients. It knows what clients that are gone sent and were answered. It has no bytes.
+/// The only right to make clients. It knows what clients that are gone sent and were answered.
 #[derive(Drop)]
 pub struct Roster<B: BoardName> {
     pub(crate) seat: Seat<Said, View>,
+    // The line of the next pass that it makes.
+    pub(crate) line: usize,
     pub(crate) of: PhantomData<B>,
 }
 

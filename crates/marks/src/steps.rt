@@ -23,6 +23,14 @@ use export_model::Event;
 use image_model::Command;
 use nbd_wire::{Answer, Request};
 
+// A word that is always 0, on which the steps of a line are exchanges.
+fn quiet_word(line: usize) -> usize
+    ensures quiet { 2 ≤ result }
+    ensures inside { result < 528 }
+{
+    16 + 16 * (line % 32)
+}
+
 impl<B: BoardName, T: Trust> Board<B, T> {
     // The accepted number, and with it all of the history.
     pub(crate) fn see_accepted(&self, seat: &mut Seat<Said, View>) -> u64
@@ -138,7 +146,12 @@ impl<B: BoardName, T: Trust> Board<B, T> {
     }
 
     // The client's request is the log's last event. No number changes. The request comes back.
-    pub(crate) fn send(&self, client: &mut Seat<Said, View>, request: Request) -> Request
+    pub(crate) fn send(
+        &self,
+        client: &mut Seat<Said, View>,
+        line: usize,
+        request: Request,
+    ) -> Request
         requires seat { IsSeat B.board B.opening client.old }
         requires speaks { client.old.me.0.client.speaks ≡ true }
         requires idle { client.old.me.0.client.state ≡ Connection.Idle }
@@ -151,7 +164,7 @@ impl<B: BoardName, T: Trust> Board<B, T> {
         let said = Said::Speaks(Event::Sent(0, request));
         self.table
             .shared
-            .compare_exchange_with::<Send>(client, 2, 0, 0, &said);
+            .compare_exchange_with::<Send>(client, quiet_word(line), 0, 0, &said);
         match said {
             Said::Speaks(event) => match event {
                 Event::Sent(_by, request) => request,
@@ -162,7 +175,12 @@ impl<B: BoardName, T: Trust> Board<B, T> {
     }
 
     // The answer to the client is the log's last event. No number changes. The answer comes back.
-    pub(crate) fn reply(&self, client: &mut Seat<Said, View>, outcome: Answer) -> Answer
+    pub(crate) fn reply(
+        &self,
+        client: &mut Seat<Said, View>,
+        line: usize,
+        outcome: Answer,
+    ) -> Answer
         requires seat { IsSeat B.board B.opening client.old }
         requires speaks { client.old.me.0.client.speaks ≡ true }
         requires may { T.logs → MayAnswer T.trusted T.image client.old.me.0.durable client.old.me.0.seen client.old.me.0.client.state outcome }
@@ -173,7 +191,7 @@ impl<B: BoardName, T: Trust> Board<B, T> {
         let said = Said::Speaks(Event::Answered(0, outcome));
         self.table
             .shared
-            .compare_exchange_with::<Reply>(client, 2, 0, 0, &said);
+            .compare_exchange_with::<Reply>(client, quiet_word(line), 0, 0, &said);
         match said {
             Said::Speaks(event) => match event {
                 Event::Answered(_by, outcome) => outcome,

@@ -45,7 +45,7 @@ pub fn decode_request(bytes: &[u8; 28]) -> Result<RequestHead, BadMagic>
     })
 }
 
-/// Writes a request's head. A server only reads them: it is for clients, as the tests are.
+/// Writes a request's head. A server only decodes heads; this is for clients, for instance the tests.
 #[tactic(auto, unfolding(crate::specs::Head::head_bytes))]
 pub fn encode_request(head: &RequestHead) -> [u8; 28]
     ensures { result ≡ head_bytes head.now }

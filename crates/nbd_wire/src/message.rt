@@ -186,7 +186,7 @@ impl ReadBytes {
         &self.runs
     }
 
-    /// The bytes, to keep their room.
+    /// The bytes, so that their buffer can be kept.
     pub fn into_bytes(self) -> Vec<u8>
         ensures { result.items ≡ self.bytes }
     {

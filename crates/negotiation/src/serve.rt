@@ -53,7 +53,7 @@ pub trait Serve<P> {
     /// It is told that the handshake is over: requests come, or the client has ended the session.
     fn handshake_is_over(&self) {}
 
-    /// It gets a reply back that isn't needed any more, whose room it may use again.
+    /// It gets a reply back that isn't needed any more, so that it can use the buffer again.
     fn reuse(&self, _reply: Reply) {}
 
     /// Answers a request, which isn't a DISC, and whose data were kept.

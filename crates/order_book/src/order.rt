@@ -59,6 +59,7 @@ pub struct Order<B: BoardName> {
     durable: u64,
     sealed: u64,
     mark: u64,
+    // How many commands the group has that was sealed last; 0 if it is pending again.
     in_hand: usize,
     pending: PendingCommands,
     backlog: Backlog,
@@ -105,7 +106,7 @@ impl<B: BoardName> Model for Order<B> {
 }
 
 // Makes room for `count` commands more to be pending, and for one more that isn't durable.
-fn make_room(
+fn reserve_both(
     pending: &mut PendingCommands,
     backlog: &mut Backlog,
     count: usize,
@@ -221,7 +222,7 @@ impl<B: BoardName> Order<B> {
         self.cache.cached_blocks()
     }
 
-    /// The seat that raises the accepted number, which knows the history. What memory holds is let go.
+    /// The seat that raises the accepted number, which knows the history. Frames and maps are freed.
     pub fn into_seat(self) -> OrderSeat<B>
         ensures history { result.history ≡ self.history }
         ensures mark { result.accepted ≡ self.mark }
@@ -397,7 +398,7 @@ impl<B: BoardName> Order<B> {
         ensures pass_unchanged { OnErr result (pass.new ≡ pass.old) }
         ensures memory { IfErr result (λ refused. refused.0 ≡ OrderFault.NoMemory) }
     {
-        let Ok(()) = make_room(&mut self.pending, &mut self.backlog, self.in_hand + 1) else {
+        let Ok(()) = reserve_both(&mut self.pending, &mut self.backlog, self.in_hand + 1) else {
             return Err((OrderFault::NoMemory, command));
         };
         let Ok(()) = apply(&mut self.cache, &command, self.mark + 1) else {
@@ -468,7 +469,7 @@ impl<B: BoardName> Order<B> {
         (self.area as u64 - BYTES_ROUND_BODY).min(MOST_BODY_BYTES as u64)
     }
 
-    /// Whether the group is the one in hand. What `seal` gave may be another's by the time that it comes back.
+    /// Whether the group is the one that was sealed last, and wasn't made pending again. Meanwhile `seal` may have given another one.
     pub fn is_in_hand(&self, group: &Group) -> bool
         ensures { IsTrue result ↔ IsInHand self.now group.now }
     {
@@ -511,8 +512,8 @@ impl<B: BoardName> Order<B> {
         }
     }
 
-    /// Makes those dirty blocks clean whose number is at most the keeper's base, in one step each, and tells whether there were
-    /// any. What is known of the image stays.
+    /// Makes those dirty blocks clean whose last write's number is at most the keeper's base, and tells whether there were any. What is
+    /// known of the image stays.
     pub fn clean<D: Disk>(&mut self, keeper: &Keeper<D>) -> bool
         ensures new { self.new ≡ with_clean self.old keeper.now.base }
         ensures view { ShowsClean keeper.now.base self.old.cache self.new.cache }

@@ -54,7 +54,7 @@ impl Session {
 
 // What a worker does.
 #[derive(Drop)]
-enum Place {
+enum WorkerState {
     // It waits for a client.
     Free,
     Serves(Arc<Session, Global>),
@@ -62,24 +62,24 @@ enum Place {
     Gone,
 }
 
-impl Place {
+impl WorkerState {
     // Whether the worker takes another client at once.
     fn is_free(&self) -> bool {
         match self {
-            Place::Free => true,
-            Place::Serves(session) => session.is_ended(),
-            Place::Gone => false,
+            WorkerState::Free => true,
+            WorkerState::Serves(session) => session.is_ended(),
+            WorkerState::Gone => false,
         }
     }
 
     fn is_gone(&self) -> bool {
-        matches!(self, Place::Gone)
+        matches!(self, WorkerState::Gone)
     }
 
     fn session(&self) -> Option<&Session> {
         match self {
-            Place::Serves(session) => Some(session),
-            Place::Free | Place::Gone => None,
+            WorkerState::Serves(session) => Some(session),
+            WorkerState::Free | WorkerState::Gone => None,
         }
     }
 }
@@ -87,15 +87,15 @@ impl Place {
 // The workers, and the clients on their way to them.
 #[derive(Drop)]
 struct Places {
-    workers: Vec<Place>,
+    workers: Vec<WorkerState>,
     // Accepted clients that no worker has taken yet: at most one for each free worker.
     waiting: VecDeque<Client>,
 }
 
 impl Places {
-    fn set(&mut self, slot: usize, place: Place) {
+    fn set(&mut self, slot: usize, state: WorkerState) {
         if let Some(worker) = self.workers.get_mut(slot) {
-            *worker = place;
+            *worker = state;
         }
     }
 
@@ -263,21 +263,21 @@ impl ClientRegistry {
         };
         let session = Arc::new(alloc, session).ok()?;
         let served = Arc::try_clone(&session).ok()?;
-        places.set(slot, Place::Serves(served));
+        places.set(slot, WorkerState::Serves(served));
         self.changed.notify_all();
         Some(session)
     }
 
     /// The worker of this slot serves nobody any more until it takes another client.
     pub(crate) fn leave<R: Wait>(&self, rt: &R, slot: usize) {
-        self.places.lock(rt).set(slot, Place::Free);
+        self.places.lock(rt).set(slot, WorkerState::Free);
         self.changed.notify_all();
     }
 
     /// The worker of this slot takes no more clients. Once none does, the registry is closed.
     pub(crate) fn retire<R: Wait>(&self, rt: &R, slot: usize) {
         let mut places = self.places.lock(rt);
-        places.set(slot, Place::Gone);
+        places.set(slot, WorkerState::Gone);
         if places.workers.iter().all(|place| place.is_gone()) {
             self.refuse_more(&mut *places);
         }
@@ -323,7 +323,7 @@ impl ClientRegistry {
 fn free_places(alloc: Global, workers: u32) -> Result<Places, AllocError> {
     let mut free = Vec::with_capacity(alloc, workers as usize)?;
     for _ in 0..workers {
-        free.push(Place::Free)?;
+        free.push(WorkerState::Free)?;
     }
     Ok(Places {
         workers: free,

@@ -164,7 +164,7 @@ impl<'a, B: ServerName> WorkerPool<'a, B> {
 
 // What a session tells while it lasts: what was asked for, and whether what is written are replies.
 #[derive(Drop)]
-struct Told {
+struct SessionNotes {
     traffic: Cell<Traffic>,
     is_replying: Cell<bool>,
 }
@@ -319,7 +319,7 @@ impl<
             client: session.number,
             from: &session.client,
         });
-        let told = Told {
+        let told = SessionNotes {
             traffic: Cell::new(Traffic {
                 requests: 0,
                 bytes_read: 0,
@@ -342,7 +342,7 @@ impl<
         &self,
         pass: &mut SessionPass<B>,
         session: &Session,
-        told: &Told,
+        told: &SessionNotes,
     ) -> Result<(), End> {
         let client = &session.client;
         let limits = self.options.limits;

@@ -138,7 +138,7 @@ impl CachedBlocks {
         self.pool.pop_clean_through(number)
     }
 
-    // Frees the clean front, and lets go of its block.
+    // Frees the frame at the front of the clean ones. Its block is in memory no longer.
     fn evict(&mut self) -> Result<u32, NoFrame>
         ensures free { IfOk result (λ frame. 1 ≤ times frame self.new.pool.free) }
         ensures front { IfOk result (λ frame. blocks_of self.new.pool self.new.blocks ≡ evicted (blocks_of self.old.pool self.old.blocks)) }
@@ -226,7 +226,7 @@ impl CachedBlocks {
         }
     }
 
-    // Lets go of a block, where it is held.
+    // Frees the frame of a block, if it has one.
     pub fn release(&mut self, block: u64)
         ensures blocks { blocks_of self.new.pool self.new.blocks ≡ without (λ other. other == block) (blocks_of self.old.pool self.old.blocks) }
         ensures missing { IsMissing block self.new }
@@ -299,7 +299,7 @@ impl CachedBlocks {
         }
     }
 
-    // Lets go of this many blocks from the first one on, by as many steps as there are blocks in the range, or frames.
+    // Frees the frames of this many blocks from the first one on, by as many steps as there are blocks in the range, or frames.
     pub fn release_blocks(&mut self, first: u64, count: u64)
         requires range { first + count < 2 ^ 64 }
         requires held { IsHeld self.old }
@@ -314,7 +314,7 @@ impl CachedBlocks {
         }
     }
 
-    // Lets go of this many blocks from the first one on, by a look at each of them.
+    // Frees the frames of this many blocks from the first one on, by a look at each of them.
     fn release_range(&mut self, first: u64, count: u64)
         requires range { first + count < 2 ^ 64 }
         requires held { IsHeld self.old }
@@ -327,7 +327,7 @@ impl CachedBlocks {
         }
     }
 
-    // Lets go of the same, by a look at each frame.
+    // Frees the same, by a look at each frame.
     fn release_frames(&mut self, first: u64, count: u64)
         requires range { first + count < 2 ^ 64 }
         requires held { IsHeld self.old }
@@ -341,7 +341,7 @@ impl CachedBlocks {
         }
     }
 
-    // Lets go of a block, if it is one of `count` blocks from `first` on.
+    // Frees the frame of a block, if it is one of `count` blocks from `first` on.
     fn release_inside(&mut self, block: u64, first: u64, count: u64)
         requires range { first + count < 2 ^ 64 }
         requires held { IsHeld self.old }

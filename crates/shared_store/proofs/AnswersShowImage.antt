@@ -32,7 +32,7 @@ use Rattle.export_model.specs.declared.action.Action.TheVariants.{End, Serve}
 use Rattle.export_model.specs.declared.step.Mode.{Mode}
 use Rattle.shared_store.specs.Answers.{ServesImage, TellsImage}
 use Rattle.shared_store.specs.Keepers.{IsOfHistory}
-use Rattle.shared_store.specs.Orders.{AreRight, IsOrderOfHistory, KeepsImage, SpanRead, Trusting, behind_noted, noted_base}
+use Rattle.shared_store.specs.Orders.{AreRight, IsOrderOfHistory, KeepsImage, SpanRead, Trusting, behind_noted, image_at_noted_base}
 use Rattle.shared_store.proofs.OrderKnowsHistory.{clean_at, noted_clean}
 use Rattle.shared_store.proofs.UnlockedReadPremises.{told_by}
 use Rattle.shared_store.proofs.ServingKeepsHistory.{gives_base, read_for}
@@ -254,7 +254,7 @@ module _ (opening : ℕ) (image : Image) (vouches : SpanRead → Type 0) (truste
         so = λ sure right.
             let shows = is.is.shows (sure, right.1) in
             shown_tells image head old new served read.image head.cookie (ap (λ (o : OrderState). o.history) read.order) (λ block. read.kinds block ∙ shows.states block)
-            (read.own (noted_base opening image old) after (behind_noted opening old) (gives_base head.offset head.length some span bytes old size read.inside opening image right.0) shows
+            (read.own (image_at_noted_base opening image old) after (behind_noted opening old) (gives_base head.offset head.length some span bytes old size read.inside opening image right.0) shows
             (noted_clean opening image Sure old is.is)) read.answer;
       }
   if_over_tells head span bytes some size vouched (Err back) over = tt

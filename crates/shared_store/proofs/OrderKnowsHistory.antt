@@ -20,7 +20,7 @@ use Rattle.order_book.specs.Order.{OrderState, IsInHand, Seals, is_published, ne
 use Rattle.order_book.specs.Reading.{IsCleanAt}
 use Rattle.order_book.specs.Shown.{ShowsImage}
 use Rattle.request_core.specs.laws.Commands.{all_behind, all_both, all_front, apply_append, commands_length}
-use Rattle.shared_store.specs.Orders.{IsOrderOfHistory, behind_noted, noted_base}
+use Rattle.shared_store.specs.Orders.{IsOrderOfHistory, behind_noted, image_at_noted_base}
 use Rattle.shared_store.specs.Parts.{IsPartOf, IsSealed, SealedState}
 use Rattle.shared_store.proofs.CleanBlocks.{clean_behind}
 use Rattle.shared_store.proofs.StoredBeginsHistory.{prefix_front, prefix_same}
@@ -273,7 +273,7 @@ module _ (opening : ℕ) (image : Image) (trusted : Type 0) where
         (clean_behind image.blocks (opening + length is.clean) start between front (last ++ rest) takes)))
 
     -- and so does the base that the order has noted
-    pub noted_clean : IsCleanAt (noted_base opening image order) (behind_noted opening order) (apply_all order.history image) order.dirty
+    pub noted_clean : IsCleanAt (image_at_noted_base opening image order) (behind_noted opening order) (apply_all order.history image) order.dirty
     noted_clean =
         let count : ℕ = order.base - opening in
         let all : take count order.history ++ drop count order.history ≡ order.history = take-append-drop count order.history in

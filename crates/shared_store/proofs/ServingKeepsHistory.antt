@@ -30,7 +30,7 @@ use Rattle.export_model.specs.declared.action.Action.TheVariants.{End, Serve}
 use Rattle.export_model.specs.declared.step.Mode.{Mode}
 use Rattle.shared_store.specs.Keepers.{IsOfHistory}
 use Rattle.shared_cache.specs.Cache.{bytes_seen}
-use Rattle.shared_store.specs.Orders.{AreRight, IsOrderOfHistory, IsRight, KeepsImage, SpanRead, behind_noted, noted_base}
+use Rattle.shared_store.specs.Orders.{AreRight, IsOrderOfHistory, IsRight, KeepsImage, SpanRead, behind_noted, image_at_noted_base}
 use Rattle.shared_store.specs.Parts.{StandsWithin}
 use Rattle.shared_store.proofs.StoredBeginsHistory.{leaves_read, leaves_still, read_by, unread_by}
 use Rattle.shared_store.proofs.OrderKnowsHistory.{cached, clean_at, more, noted_clean, stopped}
@@ -150,7 +150,7 @@ module _ (offset count : ℕ) (some : 0 < count) (span : Span) (bytes : List ℕ
       at k under same = subst (λ (b : ℕ). LiesIn b span) same (inside k under (ap (bytes_seen order.cache) same ∙ none))
 
   pub gives_base : (opening : ℕ) (image : Image) → IsRight opening image (record { first = offset / 4096; span = span; bytes = bytes; order = order })
-      → GivesBase (offset / 4096) bytes order.cache (noted_base opening image order) (behind_noted opening order)
+      → GivesBase (offset / 4096) bytes order.cache (image_at_noted_base opening image order) (behind_noted opening order)
   gives_base opening image gives = λ j k below within none is_data unwritten. gives j k below within (lies_in j below none) none is_data unwritten
 
 -- what a READ reads with no lock held
@@ -170,7 +170,7 @@ if_over opening image vouches trusted head span bytes old new is some size vouch
       reads = reads;
       vouched = (vouched, is.vouched);
       is = cached opening image (trusted × AreRight opening image reads) old before new read.order (ap (λ (l : List Kind). length l) read.states)
-          (λ sure. read.shows (noted_base opening image old) (apply_all old.history image) (behind_noted opening old)
+          (λ sure. read.shows (image_at_noted_base opening image old) (apply_all old.history image) (behind_noted opening old)
           (gives_base head.offset head.length some span bytes old size read.inside opening image sure.1.0) (before.shows sure) (noted_clean opening image (trusted × AreRight opening image reads) old before));
     }
 if_over opening image vouches trusted head span bytes old new is some size vouched (Err back) over unchanged = subst (KeepsImage opening image vouches trusted) (sym unchanged) is

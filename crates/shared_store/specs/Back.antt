@@ -14,15 +14,15 @@ IsFull (NoMemory back) = ⊥
 IsFull (AreaFull back) = Unit {0}
 IsFull Failed = ⊥
 
--- Why it is let go: a call of the device fails now, which is counted, or has failed before, or the group isn't the next one.
-abbrev pub IsLetGo : {D : Type 0} → (D → ℕ) → SealedState → KeeperState D → KeeperState D → Type 0
-IsLetGo faults sealed old new =
+-- Why it is discarded: a call of the device fails now, which is counted, or has failed before, or the group isn't the next one.
+abbrev pub IsDiscarded : {D : Type 0} → (D → ℕ) → SealedState → KeeperState D → KeeperState D → Type 0
+IsDiscarded faults sealed old new =
     ((old.failed ≡ false) × (new ≡ refused_by fault.DeviceFault old new.disk) × (faults new.disk ≡ counted (faults old.disk)))
     ⊎ ((old.failed ≡ true) × (new ≡ old))
     ⊎ ((sealed.group.first ≢ old.count + 1) × (new ≡ old))
 
--- The group comes back, and the keeper is as it was; or it is let go.
+-- The group comes back, and the keeper is as it was; or it is discarded.
 abbrev pub IsBack : {B D : Type 0} → (D → ℕ) → SealedState → KeeperState D → KeeperState D → Unstored B → Type 0
 IsBack faults sealed old new (NoMemory back) = (back ≡ sealed) × (new ≡ old)
 IsBack faults sealed old new (AreaFull back) = (back ≡ sealed) × (new ≡ old)
-IsBack faults sealed old new Failed = IsLetGo faults sealed old new
+IsBack faults sealed old new Failed = IsDiscarded faults sealed old new

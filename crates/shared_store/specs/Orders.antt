@@ -30,8 +30,8 @@ pub record IsOrderOfHistory (opening : ℕ) (image : Image) (trusted : Type 0) (
   pub noted : order.base ≤ order.mark
 
 -- The image at the noted base: that of the opening, after the commands up to the base's number. Then the commands after the base.
-abbrev pub noted_base : ℕ → Image → OrderState → Image
-noted_base opening image order = apply_all (take (order.base - opening) order.history) image
+abbrev pub image_at_noted_base : ℕ → Image → OrderState → Image
+image_at_noted_base opening image order = apply_all (take (order.base - opening) order.history) image
 
 abbrev pub behind_noted : ℕ → OrderState → List Change
 behind_noted opening order = drop (order.base - opening) order.history
@@ -48,8 +48,8 @@ pub record SpanRead : Type 0 where
 abbrev pub IsRight : ℕ → Image → SpanRead → Type 0
 IsRight opening image read =
     (j k : ℕ) → 4096 * j < length read.bytes → k < 4096 → LiesIn (read.first + j) read.span → bytes_seen read.order.cache (read.first + j) ≡ None
-    → (noted_base opening image read.order).kind (read.first + j) ≡ Data → is_written (read.first + j) (behind_noted opening read.order) ≡ false
-    → slice_index read.bytes (4096 * j + k) ≡ (noted_base opening image read.order).byte (4096 * (read.first + j) + k)
+    → (image_at_noted_base opening image read.order).kind (read.first + j) ≡ Data → is_written (read.first + j) (behind_noted opening read.order) ≡ false
+    → slice_index read.bytes (4096 * j + k) ≡ (image_at_noted_base opening image read.order).byte (4096 * (read.first + j) + k)
 
 abbrev pub AreRight : ℕ → Image → List SpanRead → Type 0
 AreRight opening image [] = Unit {0}

@@ -26,7 +26,7 @@ returns-in_default g c = record {
   blocks = ap (λ (o : OrderState). length o.cache.states) c.self.view_is;
   handed_back = refl;
   unchanged =
-      ap (λ (l : List Command). let o : OrderState = record (state_of c.self.inside) { pending = l; bodies = c.make_room.new.backlog.bodies } in o) c.in_default.ensures.commands
+      ap (λ (l : List Command). let o : OrderState = record (state_of c.self.inside) { pending = l; bodies = c.reserve_both.new.backlog.bodies } in o) c.in_default.ensures.commands
       ∙ ap (λ (l : List ℕ). let o : OrderState = record (state_of c.self.inside) { bodies = l } in o) c.in_default.ensures.bodies
       ∙ c.self.view_is;
   known = tt;
@@ -48,7 +48,7 @@ returns-in_default-apply g c = record {
   blocks = c.apply.ensures.blocks ∙ ap (λ (o : OrderState). length o.cache.states) c.self.view_is;
   handed_back = refl;
   unchanged =
-      ap (λ (l : List Command). let o : OrderState = record (state_of c.self.inside) { pending = l; bodies = c.make_room.new.backlog.bodies; cache = c.apply.new.cache; dirty = dirty_of c.apply.new.cache; frames = frames_of c.apply.new.cache } in o) c.in-Ok.ensures.commands
+      ap (λ (l : List Command). let o : OrderState = record (state_of c.self.inside) { pending = l; bodies = c.reserve_both.new.backlog.bodies; cache = c.apply.new.cache; dirty = dirty_of c.apply.new.cache; frames = frames_of c.apply.new.cache } in o) c.in-Ok.ensures.commands
       ∙ ap (λ (l : List ℕ). let o : OrderState = record (state_of c.self.inside) { bodies = l; cache = c.apply.new.cache; dirty = dirty_of c.apply.new.cache; frames = frames_of c.apply.new.cache } in o) c.in-Ok.ensures.bodies
       ∙ ap (λ (cache : CacheState). let o : OrderState = record (state_of c.self.inside) { cache = cache; dirty = dirty_of cache; frames = frames_of cache } in o) c.in_default-apply.ensures.err
       ∙ c.self.view_is;
