@@ -154,7 +154,8 @@ impl<'a, F: FileExt + OpenFile + AsRawFd + Drop, L: FileLines + Drop> ToldFile<'
     }
 }
 
-impl<'a, F: FileExt + OpenFile + AsRawFd + Drop, L: FileLines + Drop> FileExt for ToldFile<'a, F, L> {
+impl<'a, F: FileExt + OpenFile + AsRawFd + Drop, L: FileLines + Drop> FileExt
+    for ToldFile<'a, F, L> {
     fn read_at(&self, buf: &mut [u8], offset: u64) -> io::Result<usize> {
         let wanted = buf.len();
         let read = self.file.read_at(buf, offset);
@@ -185,7 +186,8 @@ impl<'a, F: FileExt + OpenFile + AsRawFd + Drop, L: FileLines + Drop> FileExt fo
     }
 }
 
-impl<'a, F: FileExt + OpenFile + AsRawFd + Drop, L: FileLines + Drop> OpenFile for ToldFile<'a, F, L> {
+impl<'a, F: FileExt + OpenFile + AsRawFd + Drop, L: FileLines + Drop> OpenFile
+    for ToldFile<'a, F, L> {
     fn metadata(&self) -> io::Result<Metadata> {
         self.file.metadata()
     }
