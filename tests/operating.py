@@ -725,8 +725,10 @@ def unreadable(folder):
         other.sendall(request(READ, 7, bad * BLOCK, BLOCK))
         check("unreadable: a read of what was written", reply(7) + block_of(6), take(other, 16 + BLOCK))
         check("unreadable: it lives", None, server.process.poll())
+        # (a thread of its own writes the log: a kill could come before it does)
+        lines = server.read_log(1)
         server.kill()
-        lines = server.process.stderr.read().splitlines()
+        lines = "".join([*lines, server.process.stderr.read()]).splitlines()
     check("unreadable: it is told once", [f"nbdj: {server.image}: read of {BLOCK} bytes at {place - 700}: Input/output error (os error 5)"], lines)
     recover(server)
     image = read_image(server)
@@ -777,8 +779,9 @@ def refused_when_full(folder):
                 check("refusing: the client that is served", True, write(client, 1, BLOCK))
                 client.sendall(request(DISC, 9))
                 check("refusing: the end of its session", b"", take(client, 1))
+        lines = server.read_log(1)
         server.kill()
-        lines = server.process.stderr.read().splitlines()
+        lines = "".join([*lines, server.process.stderr.read()]).splitlines()
     check("refusing: the log, once a minute", [f"nbdj: {server.image}: all 1 workers have a client, and further ones are refused"], lines)
 
 

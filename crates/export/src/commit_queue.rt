@@ -8,7 +8,7 @@ ghost use Rattle.export.specs.inner.Submits.{IsShownFor, serves_image};
 ghost use Rattle.export_model.specs.Log.{is_write};
 ghost use Rattle.export_model.specs.OneLog.{IsOneLog};
 ghost use Rattle.image_model.specs.Edit.{blocks_met};
-ghost use Rattle.order_book.specs.Order.{with_clean};
+ghost use Rattle.order_book.specs.Order.{with_clean, with_durable};
 ghost use Rattle.request_core.specs.Reading.{IsPlanned, IsReadOverServed};
 ghost use Rattle.regions.specs.Layout.{block_at};
 ghost use Rattle.shared_store.specs.Keepers.{HasLeft};
@@ -472,6 +472,7 @@ impl<B: ExportName> CommitQueue<B> {
     /// takes no other into use.
     pub(crate) fn request_if_dirty(&mut self) -> bool
         ensures noted_base { self.new.noted_base ≡ self.old.noted_base }
+        ensures order { self.new.order ≡ self.old.order }
         ensures limit { self.new.most_pending ≡ self.old.most_pending }
     {
         if self.checkpoint_after.is_some() || !self.has_dirtied_many() {
@@ -705,6 +706,7 @@ impl<B: ExportName> CommitQueue<B> {
         engine: &mut StorageEngine<B, D>,
     ) -> bool
         ensures noted_base { self.new.noted_base ≡ self.old.noted_base }
+        ensures order { self.new.order ≡ with_durable self.old.order engine.old.shared.keeper.count }
         ensures limit { self.new.most_pending ≡ self.old.most_pending }
     {
         self.order.publish(board, &mut engine.shared);

@@ -161,7 +161,7 @@ fn serve_told<R: Threads + Wait + Clock + Copy + Send + Sync + Drop + 'static>(
     outcome
 }
 
-// The socket where figures are told, to nobody but the server's own user.
+// The socket where figures are told, to nobody but root and the server's own user.
 fn open_status<'a>(
     rt: &HostRuntime,
     teller: Teller,
