@@ -195,16 +195,6 @@ def most_resident(workers):
     return FRAMES * BLOCK + 8 * MIB + workers * 4 * MIB
 
 
-def resident_of(process):
-    """The bytes of a process that are in memory; 0 if it has ended."""
-    try:
-        with open(f"/proc/{process}/status", encoding="ascii") as file:
-            rows = dict(line.split(":", 1) for line in file)
-    except OSError:
-        return 0
-    return int(rows["VmRSS"].split()[0]) * 1024 if "VmRSS" in rows else 0
-
-
 class Server:
     """A server by TCP of the image FOLDER/NAME.img, which is made unless `made` says that it is there."""
 
@@ -263,8 +253,17 @@ class Server:
             check(f"{self.name}: the handshake", wanted, (found[:16], size, flags))
         return client
 
+    def resident(self):
+        """Bytes; 0 of a server that has ended."""
+        try:
+            with open(f"/proc/{self.process.pid}/status", encoding="ascii") as file:
+                rows = dict(line.split(":", 1) for line in file)
+        except OSError:
+            return 0
+        return int(rows["VmRSS"].split()[0]) * 1024 if "VmRSS" in rows else 0
+
     def watch(self):
-        self.most = max(self.most, resident_of(self.process.pid))
+        self.most = max(self.most, self.resident())
 
     def goes_on(self, name, seconds=20):
         """Checks that it lives, that its memory is below the bound, and that a good client writes, flushes and reads."""

@@ -1,8 +1,7 @@
 #!/usr/bin/env python3
-"""How `serve` of the built program NBDJ starts, runs and ends, as an operator sees it: what kills leave, eight clients at once, slow, failing and
-hanging devices, `--cache ordered`, limits on what is pending, stops, dead clients, another writer of the image, unreadable sectors, the log,
-memory after a load, more clients than workers, slow handshakes, several listeners, sockets from systemd, a log that nobody reads, a long start,
-and locks.
+"""How `serve` of the built program NBDJ starts, runs and ends, as an operator sees it: what kills leave, eight clients at once, slow, failing
+and hanging devices, `--cache ordered`, limits on what is pending, stops, dead clients, another writer of the image, unreadable sectors, the
+log, more clients than workers, slow handshakes, several listeners, sockets from systemd, a log that nobody reads, a long start, and locks.
 
 usage: tests/operating.py [SCENARIO ..]          (SCENARIO: the name of one of the functions below that `main` lists; by default all)
 
@@ -29,9 +28,8 @@ from concurrent.futures import ThreadPoolExecutor
 import checks
 from checks import (
     BLOCK, BLOCKS, DISC, EIO, FLAGS, FLUSH, FRAMES, FUA, HANDSHAKE, LONG_HANDSHAKE, MIB, NBDJ, READ, TOP, TRIM, WRITE, ZEROES, Server, block_of, check,
-    connect, format_image, read_address, preload_settings, reply, request, resident_of, run, run_scenario, serve, take,
+    connect, format_image, read_address, preload_settings, reply, request, run, run_scenario, serve, take,
 )
-from databases import children_of
 
 SECTOR = 512
 # The blocks that each of eight clients has for itself, together more than there are frames, and how often it asks for something.
@@ -527,38 +525,6 @@ def early_signal(script, image, environment, millis):
     time.sleep(millis / 1000)
     os.killpg(server.pid, signal.SIGTERM)
     return server.wait(timeout=20)
-
-
-def write_long_and_short(client, own):
-    """Writes ten times a MiB and then 32 blocks; whether all were answered Ok."""
-    source = random.Random(own)
-    for turn in range(10):
-        client.sendall(request(WRITE, turn, source.randrange(BLOCKS * BLOCK // MIB) * MIB, MIB) + bytes(MIB))
-        if take(client, 16) != reply(turn):
-            return False
-        client.sendall(b"".join(request(WRITE, number, source.randrange(BLOCKS) * BLOCK, BLOCK) + bytes(BLOCK) for number in range(32)))
-        if take(client, 16 * 32) != b"".join(map(reply, range(32))):
-            return False
-    return True
-
-
-def freed(folder):
-    """After writes of 16 clients nbdj gives back the memory that it doesn't need, if nbdj-server runs it."""
-    script = os.path.join(TOP, "packaging", "nbdj-server")
-    with Server(folder, "freed", 16, program=(script,), env={**os.environ, "NBDJ": NBDJ}) as server:
-        clients = [server.new_client() for _ in range(16)]
-        with ThreadPoolExecutor(16) as pool:
-            check("freed: all writes are answered", {True}, set(pool.map(write_long_and_short, clients, range(16))))
-        for client in clients:
-            client.close()
-        # 2 MiB are frames, 4 the program and what it maps. (Without the variable that nbdj-server sets, some 50 stay.)
-        limit, found = (2 + 4 + 16) * MIB, []
-        for _ in range(50):
-            found = [resident_of(number) for number in children_of(server.process.pid)]
-            if found and max(found) <= limit:
-                break
-            time.sleep(0.2)
-        check("freed: nbdj's memory", True, (bool(found) and 0 < max(found) <= limit) or found)
 
 
 def idle(folder):
@@ -1145,7 +1111,7 @@ def shut_out(folder):
 
 
 def main():
-    scenarios = [kills, intervals, sectors, in_turn, eight, beside, unflushed, bounded, shown, asked_to_end, managed, freed, idle, failing, second_writer,
+    scenarios = [kills, intervals, sectors, in_turn, eight, beside, unflushed, bounded, shown, asked_to_end, managed, idle, failing, second_writer,
                  failing_amid_eight, gathered, unreadable, told, refused_when_full, silent_handshakes, many_listeners, activated, crowded, unheard, copied,
                  long_opening, waiting, late, shut_out]
     unknown = set(sys.argv[1:]) - {it.__name__ for it in scenarios}
