@@ -439,7 +439,7 @@ full_disk() {
     is 'a full disk: a copy that has room' 0 "$(quiet nbdcopy --flush one "$uri")"
     is 'a full disk: a copy that has none' 1 "$(quiet nbdcopy --flush half_a "$uri" | head -n 1)"
     wait "$server" 2>wait
-    is 'a full disk: the end' '1|nbdj: d.img: write of N bytes at K: No space left on device (os error 28)|nbdj: no space left on device: free some and start again; nothing a FLUSH confirmed is lost|nbdj: device fault (1)' \
+    is 'a full disk: the end' '1|nbdj: d.img: write of N bytes at K: No space left on device (os error 28)|nbdj: no space left on device: free some and start again; nothing durable is lost|nbdj: device fault (1)' \
         "$?|$(sed 's/of [0-9]* bytes at [0-9]*/of N bytes at K/' serve_errors | paste -sd '|')"
     server=''
     "$NBDJ" recover d.img >output 2>errors

@@ -228,7 +228,7 @@ on_full_disks() {
     is 'a write that is stored on a full disk' "$(reply 1 0)$(reply 2 0)" "$output"
     : >input
     run recover -v small/d.img
-    is 'a copy into a hole on a full disk' '1|nbdj: small/d.img: write of N bytes at K: No space left on device (os error 28)|nbdj: no space left on device: free some and start again; nothing a FLUSH confirmed is lost|nbdj: device fault (1)' \
+    is 'a copy into a hole on a full disk' '1|nbdj: small/d.img: write of N bytes at K: No space left on device (os error 28)|nbdj: no space left on device: free some and start again; nothing durable is lost|nbdj: device fault (1)' \
         "$status|$(sed 's/of [0-9]* bytes at [0-9]*/of N bytes at K/' errors | paste -s -d '|')"
     rm small/rest
     ends 'a disk with room again' 0 "$(text 'commands 1')" '' recover small/d.img

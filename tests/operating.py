@@ -479,7 +479,7 @@ def managed(folder):
     ways = (("terminated", os.kill, signal.SIGTERM), ("interrupted", os.kill, signal.SIGINT), ("hung-up", os.kill, signal.SIGHUP),
             ("group", os.killpg, signal.SIGTERM))
     for name, send, number in ways:
-        settings = {"program": (script,), "env": {**os.environ, "NBDJ": NBDJ}, "start_new_session": True, "preexec_fn": reset_signals}
+        settings = {"program": (script,), "env": {**os.environ, "NBDJ": NBDJ, "MALLOC_ARENA_MAX": ""}, "start_new_session": True, "preexec_fn": reset_signals}
         with Server(folder, name, 4, "--flush-interval", "0", **settings) as server:
             answered = {}
             clients = [server.new_client() for _ in range(3)]
@@ -487,6 +487,7 @@ def managed(folder):
             for thread in threads:
                 thread.start()
             time.sleep(1)
+            check(f"{name}: the arenas of the C library", ["MALLOC_ARENA_MAX=2"], arenas_of_child(server.process.pid))
             send(server.process.pid, number)
             check(f"{name}: the end", (0, ""), wait_for_end(server))
             # (otherwise the clients would not end)
@@ -516,6 +517,14 @@ def managed(folder):
     statuses = {early_signal(script, os.path.join(folder, "killed.img"), settings["env"], millis) for millis in range(0, 40, 2) for _ in range(4)}
     # (before the shell has read the first lines, the signal ends it)
     check("nbdj-server: a signal to the group right after the start", set(), statuses - {0, -signal.SIGTERM})
+
+
+def arenas_of_child(pid):
+    """What the environment of the process's only child says of the C library's arenas."""
+    with open(f"/proc/{pid}/task/{pid}/children", encoding="ascii") as children:
+        [child] = children.read().split()
+    with open(f"/proc/{child}/environ", encoding="utf-8", errors="replace") as settings:
+        return [it for it in settings.read().split("\0") if it.startswith("MALLOC_ARENA_MAX=")]
 
 
 def early_signal(script, image, environment, millis):

@@ -150,6 +150,8 @@ fn show<B: ExportName, T: Trust>(
 }
 
 impl<B: ExportName> CommitQueue<B> {
+    ghost use Rattle.export.specs.inner.Queue.{KeepsBounds};
+
     pub(crate) fn new(
         order: SharedOrder<B>,
         frames: u32,
@@ -198,11 +200,10 @@ impl<B: ExportName> CommitQueue<B> {
         ensures served { IfOk result (λ served. IsServedAs T.logs T.trusted T.image B.opening B.image B.vouches B.trusted request terms pass.old pass.new served) }
         ensures handed_back { IfErr result (λ back. back.0 ≡ request) }
         ensures unchanged { OnErr result (pass.new ≡ pass.old) }
-        ensures noted_base { self.new.noted_base ≡ self.old.noted_base }
+        ensures bounds { KeepsBounds self.old self.new }
 
         // Once a command was accepted, no more bytes are pending than may be, its own included.
         ensures bounded { self.old.order.mark < self.new.order.mark → sum self.new.order.bodies ≤ self.old.most_pending }
-        ensures limit { self.new.most_pending ≡ self.old.most_pending }
     {
         if self.exceeds_loss(&request) {
             return Ok(Served::NoRoom(request));
@@ -306,9 +307,8 @@ impl<B: ExportName> CommitQueue<B> {
         ensures served { IsServedAs T.logs T.trusted T.image B.opening B.image B.vouches B.trusted request terms pass.old pass.new result }
         ensures geometry { keeper.new.keeper.geometry ≡ keeper.old.keeper.geometry }
         ensures count { keeper.new.keeper.count ≡ keeper.old.keeper.count }
-        ensures noted_base { self.new.noted_base ≡ self.old.noted_base }
+        ensures bounds { KeepsBounds self.old self.new }
         ensures bounded { self.old.order.mark < self.new.order.mark → sum self.new.order.bodies ≤ self.old.most_pending }
-        ensures limit { self.new.most_pending ≡ self.old.most_pending }
     {
         if self.exceeds_loss(&request) {
             return Served::NoRoom(request);
@@ -367,33 +367,29 @@ impl<B: ExportName> CommitQueue<B> {
 
     /// Refuses commands from now on.
     pub(crate) fn stop(&mut self)
-        ensures noted_base { self.new.noted_base ≡ self.old.noted_base }
-        ensures limit { self.new.most_pending ≡ self.old.most_pending }
+        ensures bounds { KeepsBounds self.old self.new }
     {
         self.order.stop();
     }
 
     /// A pass has left.
     pub(crate) fn leave(&mut self)
-        ensures noted_base { self.new.noted_base ≡ self.old.noted_base }
-        ensures limit { self.new.most_pending ≡ self.old.most_pending }
+        ensures bounds { KeepsBounds self.old self.new }
     {
         self.passes = self.passes.saturating_sub(1);
     }
 
     /// No group will be stored any more.
     pub(crate) fn end(&mut self)
-        ensures noted_base { self.new.noted_base ≡ self.old.noted_base }
-        ensures limit { self.new.most_pending ≡ self.old.most_pending }
+        ensures bounds { KeepsBounds self.old self.new }
     {
         self.flusher_ended = true;
     }
 
     /// The flusher is to store all up to a number.
     pub(crate) fn want(&mut self, number: u64)
-        ensures noted_base { self.new.noted_base ≡ self.old.noted_base }
+        ensures bounds { KeepsBounds self.old self.new }
         ensures order { self.new.order ≡ self.old.order }
-        ensures limit { self.new.most_pending ≡ self.old.most_pending }
     {
         self.wanted = self.wanted.max(number);
         self.calls_flusher = true;
@@ -401,8 +397,7 @@ impl<B: ExportName> CommitQueue<B> {
 
     /// Somebody begins to wait until a number is durable, which it isn't.
     pub(crate) fn begin_wait(&mut self, number: u64)
-        ensures noted_base { self.new.noted_base ≡ self.old.noted_base }
-        ensures limit { self.new.most_pending ≡ self.old.most_pending }
+        ensures bounds { KeepsBounds self.old self.new }
     {
         let is_sealed = number <= self.order.order().sealed();
         self.waiters.join(is_sealed);
@@ -432,8 +427,7 @@ impl<B: ExportName> CommitQueue<B> {
 
     /// The flusher is to store the next group.
     pub(crate) fn call_flusher(&mut self)
-        ensures noted_base { self.new.noted_base ≡ self.old.noted_base }
-        ensures limit { self.new.most_pending ≡ self.old.most_pending }
+        ensures bounds { KeepsBounds self.old self.new }
     {
         self.calls_flusher = true;
     }
@@ -448,18 +442,16 @@ impl<B: ExportName> CommitQueue<B> {
 
     /// A command has no room.
     pub(crate) fn note_no_room(&mut self)
-        ensures noted_base { self.new.noted_base ≡ self.old.noted_base }
-        ensures limit { self.new.most_pending ≡ self.old.most_pending }
+        ensures bounds { KeepsBounds self.old self.new }
     {
         self.lacks_room = true;
         self.request_checkpoint();
     }
 
-    /// Wants a checkpoint, which frees what is accepted by now.
+    /// Unless a checkpoint is wanted, wants one of all that is accepted by now, which the flusher is to store.
     pub(crate) fn request_checkpoint(&mut self)
-        ensures noted_base { self.new.noted_base ≡ self.old.noted_base }
+        ensures bounds { KeepsBounds self.old self.new }
         ensures order { self.new.order ≡ self.old.order }
-        ensures limit { self.new.most_pending ≡ self.old.most_pending }
     {
         if self.checkpoint_after.is_none() {
             let through = self.order.order().mark();
@@ -471,9 +463,8 @@ impl<B: ExportName> CommitQueue<B> {
     /// Wants a checkpoint if a quarter of the frames is dirty; whether it is wanted from now on. While an area waits to be copied, this
     /// takes no other into use.
     pub(crate) fn request_if_dirty(&mut self) -> bool
-        ensures noted_base { self.new.noted_base ≡ self.old.noted_base }
+        ensures bounds { KeepsBounds self.old self.new }
         ensures order { self.new.order ≡ self.old.order }
-        ensures limit { self.new.most_pending ≡ self.old.most_pending }
     {
         if self.checkpoint_after.is_some() || !self.has_dirtied_many() {
             return false;
@@ -489,8 +480,7 @@ impl<B: ExportName> CommitQueue<B> {
 
     /// How many microseconds a client waits that has written this many blocks.
     pub(crate) fn throttle(&mut self, blocks: u64) -> u64
-        ensures noted_base { self.new.noted_base ≡ self.old.noted_base }
-        ensures limit { self.new.most_pending ≡ self.old.most_pending }
+        ensures bounds { KeepsBounds self.old self.new }
     {
         let dirty = self.order.order().dirty_blocks() as u64;
         self.throttle.note(blocks, dirty, self.frames as u64)
@@ -510,8 +500,7 @@ impl<B: ExportName> CommitQueue<B> {
     /// Whether to wake the flusher, and the checkpointer, once a request was served: both if a checkpoint is wanted from now on, and the
     /// flusher also if much is pending, or if it is to count the time from now on.
     pub(crate) fn whom_to_wake(&mut self) -> (bool, bool)
-        ensures noted_base { self.new.noted_base ≡ self.old.noted_base }
-        ensures limit { self.new.most_pending ≡ self.old.most_pending }
+        ensures bounds { KeepsBounds self.old self.new }
     {
         let is_due = self.request_if_dirty();
         let first = self.is_pending() && self.interval.take_awaits_first();
@@ -525,8 +514,7 @@ impl<B: ExportName> CommitQueue<B> {
 
     /// Has what is pending by now stored.
     pub(crate) fn want_pending(&mut self)
-        ensures noted_base { self.new.noted_base ≡ self.old.noted_base }
-        ensures limit { self.new.most_pending ≡ self.old.most_pending }
+        ensures bounds { KeepsBounds self.old self.new }
     {
         let mark = self.order.order().mark();
         self.want(mark);
@@ -569,18 +557,16 @@ impl<B: ExportName> CommitQueue<B> {
         self.flusher_ended
     }
 
-    /// Whether memory has been refused to the flusher for so long that nobody is to wait for a group.
+    /// Sets whether memory has been refused to the flusher for so long that nobody is to wait for a group.
     pub(crate) fn set_cannot_store(&mut self, cannot: bool)
-        ensures noted_base { self.new.noted_base ≡ self.old.noted_base }
-        ensures limit { self.new.most_pending ≡ self.old.most_pending }
+        ensures bounds { KeepsBounds self.old self.new }
     {
         self.cannot_store = cannot;
     }
 
-    /// The same of the checkpointer, and of room.
+    /// Sets whether memory has been refused to the checkpointer for so long that nobody is to wait for room.
     pub(crate) fn set_cannot_copy(&mut self, cannot: bool)
-        ensures noted_base { self.new.noted_base ≡ self.old.noted_base }
-        ensures limit { self.new.most_pending ≡ self.old.most_pending }
+        ensures bounds { KeepsBounds self.old self.new }
     {
         self.cannot_copy = cannot;
     }
@@ -602,8 +588,7 @@ impl<B: ExportName> CommitQueue<B> {
 
     /// A command was accepted after this moment.
     pub(crate) fn note_pending(&mut self, began: Instant)
-        ensures noted_base { self.new.noted_base ≡ self.old.noted_base }
-        ensures limit { self.new.most_pending ≡ self.old.most_pending }
+        ensures bounds { KeepsBounds self.old self.new }
     {
         if self.is_pending() {
             self.notes.note_pending(began);
@@ -612,9 +597,8 @@ impl<B: ExportName> CommitQueue<B> {
 
     /// How much of the journal is used now.
     pub(crate) fn note_journal(&mut self, journal: JournalUse)
-        ensures noted_base { self.new.noted_base ≡ self.old.noted_base }
+        ensures bounds { KeepsBounds self.old self.new }
         ensures order { self.new.order ≡ self.old.order }
-        ensures limit { self.new.most_pending ≡ self.old.most_pending }
     {
         self.notes.note_journal(journal);
     }
@@ -647,8 +631,7 @@ impl<B: ExportName> CommitQueue<B> {
         board: &Board<B, T>,
         now: Option<Instant>,
     ) -> Result<Option<SealedGroup<B>>, OrderFault>
-        ensures noted_base { self.new.noted_base ≡ self.old.noted_base }
-        ensures limit { self.new.most_pending ≡ self.old.most_pending }
+        ensures bounds { KeepsBounds self.old self.new }
     {
         let sealed = self.order.seal(board)?;
         if sealed.is_some() {
@@ -664,8 +647,7 @@ impl<B: ExportName> CommitQueue<B> {
 
     /// Makes a group pending again, which the flusher is to store.
     pub(crate) fn put_back<T: Trust>(&mut self, board: &Board<B, T>, sealed: SealedGroup<B>)
-        ensures noted_base { self.new.noted_base ≡ self.old.noted_base }
-        ensures limit { self.new.most_pending ≡ self.old.most_pending }
+        ensures bounds { KeepsBounds self.old self.new }
     {
         self.waiters.put_back();
         if let Err(other) = self.order.put_back(board, sealed) {
@@ -677,9 +659,8 @@ impl<B: ExportName> CommitQueue<B> {
     }
 
     /// Makes a group pending again, which the area had no room for, and wants a checkpoint.
-    pub(crate) fn take_back<T: Trust>(&mut self, board: &Board<B, T>, sealed: SealedGroup<B>)
-        ensures noted_base { self.new.noted_base ≡ self.old.noted_base }
-        ensures limit { self.new.most_pending ≡ self.old.most_pending }
+    pub(crate) fn put_back_as_full<T: Trust>(&mut self, board: &Board<B, T>, sealed: SealedGroup<B>)
+        ensures bounds { KeepsBounds self.old self.new }
     {
         self.put_back(board, sealed);
         self.is_full = true;
@@ -693,8 +674,7 @@ impl<B: ExportName> CommitQueue<B> {
 
     /// Another area has been taken into use.
     pub(crate) fn note_next_area(&mut self)
-        ensures noted_base { self.new.noted_base ≡ self.old.noted_base }
-        ensures limit { self.new.most_pending ≡ self.old.most_pending }
+        ensures bounds { KeepsBounds self.old self.new }
     {
         self.is_full = false;
     }
@@ -705,9 +685,8 @@ impl<B: ExportName> CommitQueue<B> {
         board: &Board<B, T>,
         engine: &mut StorageEngine<B, D>,
     ) -> bool
-        ensures noted_base { self.new.noted_base ≡ self.old.noted_base }
+        ensures bounds { KeepsBounds self.old self.new }
         ensures order { self.new.order ≡ with_durable self.old.order engine.old.shared.keeper.count }
-        ensures limit { self.new.most_pending ≡ self.old.most_pending }
     {
         self.order.publish(board, &mut engine.shared);
         self.is_storing = false;
@@ -797,11 +776,10 @@ impl<B: ExportName> CommitQueue<B> {
         self.clear_checkpoint_request();
     }
 
-    /// The checkpoint that was wanted is done.
+    /// No checkpoint is wanted any more, unless the area is full.
     pub(crate) fn clear_checkpoint_request(&mut self)
-        ensures noted_base { self.new.noted_base ≡ self.old.noted_base }
+        ensures bounds { KeepsBounds self.old self.new }
         ensures order { self.new.order ≡ self.old.order }
-        ensures limit { self.new.most_pending ≡ self.old.most_pending }
     {
         self.lacks_room = false;
         self.checkpoint_after = None;

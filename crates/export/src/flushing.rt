@@ -15,10 +15,10 @@ use std::sync::Wait;
 use std::time::{Duration, Instant};
 
 // What came of a step of the flusher.
-enum Flush<B: ExportName> {
+enum FlusherStep<B: ExportName> {
     // A group was sealed, and is stored next.
     Sealed(SealedGroup<B>),
-    // It was stored, or is pending again.
+    // It was stored, is pending again, or a call of the device failed.
     Done,
     // There was nothing to store for a while.
     Waited,
@@ -69,20 +69,20 @@ impl<B: ExportName, D: Disk, H: ReadUnlocked, T: Trust> Export<B, D, H, T> {
         rt: &R,
         points: &mut G,
         retries: &mut Retries,
-        step: Flush<B>,
+        step: FlusherStep<B>,
     ) -> Option<Option<SealedGroup<B>>> {
         match step {
-            Flush::Sealed(group) => Some(Some(group)),
-            Flush::Waited => Some(None),
-            Flush::Ended => None,
-            Flush::Done => {
+            FlusherStep::Sealed(group) => Some(Some(group)),
+            FlusherStep::Waited => Some(None),
+            FlusherStep::Ended => None,
+            FlusherStep::Done => {
                 if !retries.has_no_refusal() {
                     *retries = Retries::new();
                     self.queue.lock(rt).set_cannot_store(false);
                 }
                 Some(None)
             }
-            Flush::NoMemory(back) => {
+            FlusherStep::NoMemory(back) => {
                 if retries.has_no_refusal() {
                     points.reach(Point::NoMemory);
                 }
@@ -107,25 +107,25 @@ impl<B: ExportName, D: Disk, H: ReadUnlocked, T: Trust> Export<B, D, H, T> {
     }
 
     // Seals the next group that is to be stored, where there is one, else it waits for a while.
-    fn next_group<R: Wait + Clock>(&self, rt: &R, pace: &mut Pace) -> Flush<B> {
+    fn next_group<R: Wait + Clock>(&self, rt: &R, pace: &mut Pace) -> FlusherStep<B> {
         let mut queue = self.queue.lock(rt);
         if queue.is_stopped() || queue.is_done() {
-            return Flush::Ended;
+            return FlusherStep::Ended;
         }
         if !queue.needs_flusher() {
             self.wait_for_work(rt, queue);
-            return Flush::Waited;
+            return FlusherStep::Waited;
         }
         if let Some(left) = time_to_gather(rt, &*queue, pace) {
             let _woken = self.signals.work.wait_timeout(rt, queue, left);
-            return Flush::Waited;
+            return FlusherStep::Waited;
         }
         match queue.seal(&self.board, Instant::now(rt).ok()) {
             Ok(Some(group)) => {
                 pace.seal();
-                Flush::Sealed(group)
+                FlusherStep::Sealed(group)
             }
-            Ok(None) | Err(_) => Flush::NoMemory(None),
+            Ok(None) | Err(_) => FlusherStep::NoMemory(None),
         }
     }
 
@@ -136,14 +136,14 @@ impl<B: ExportName, D: Disk, H: ReadUnlocked, T: Trust> Export<B, D, H, T> {
         points: &mut G,
         pace: &mut Pace,
         group: SealedGroup<B>,
-    ) -> Flush<B> {
+    ) -> FlusherStep<B> {
         let begin = Instant::now(rt).ok();
         match self.store_group(rt, points, group) {
             Ok(()) => {
                 pace.note(rt, begin);
-                Flush::Done
+                FlusherStep::Done
             }
-            Err(group) => Flush::NoMemory(Some(group)),
+            Err(group) => FlusherStep::NoMemory(Some(group)),
         }
     }
 
@@ -205,7 +205,7 @@ impl<B: ExportName, D: Disk, H: ReadUnlocked, T: Trust> Export<B, D, H, T> {
             Err(Unstored::NoMemory(group)) => Err(group),
             Err(Unstored::AreaFull(group)) => {
                 // It is pending again, and is stored once another area is in use.
-                self.queue.lock(rt).take_back(&self.board, group);
+                self.queue.lock(rt).put_back_as_full(&self.board, group);
                 self.signals.notify(false, true);
                 Ok(())
             }

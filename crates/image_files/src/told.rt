@@ -42,8 +42,7 @@ pub struct ToldFile<'a, F: FileExt + OpenFile + AsRawFd + Drop, L: FileLines + D
 }
 
 // What is told of an image on a full disk.
-const FULL: &str =
-    "no space left on device: free some and start again; nothing a FLUSH confirmed is lost";
+const FULL: &str = "no space left on device: free some and start again; nothing durable is lost";
 
 // What is told where the header slots aren't as they were left.
 const OVERWRITTEN: &str =

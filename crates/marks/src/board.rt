@@ -21,7 +21,8 @@ use std::alloc::{AllocError, Global};
 use std::marker::PhantomData;
 
 /// The words of a board: the two numbers, and those after them, which are always 0. A step that changes no number is an exchange on one
-/// of these. Each client has its own, with 128 bytes from one to the next: two processors never wait for the same piece of a cache.
+/// of these. Each of the first 32 clients has its own, with 128 bytes from one to the next, so that no two of them wait for the same
+/// piece of a cache; the next ones share these.
 pub(crate) const WORDS: usize = 528;
 
 /// Two watermarks that only grow: the number of the last command accepted, and of the last one durable, which is no greater. In the

@@ -52,7 +52,7 @@ pub fn serve_at<R: Threads + Wait + Clock + Copy + Send + Sync + Drop + 'static>
     let outcome = match Name::new(rt, teller, name) {
         Err(refusal) => Err(refusal),
         Ok(name) => match status {
-            None => serve_logged(
+            None => serve_device(
                 rt,
                 teller,
                 log,
@@ -63,7 +63,7 @@ pub fn serve_at<R: Threads + Wait + Clock + Copy + Send + Sync + Drop + 'static>
                 &name,
                 options,
             ),
-            Some(at) => serve_told(
+            Some(at) => serve_with_status(
                 rt,
                 teller,
                 log,
@@ -128,7 +128,7 @@ fn random_number(rt: &HostRuntime) -> io::Result<u64> {
 }
 
 // Serves a device whose figures are told at a socket.
-fn serve_told<R: Threads + Wait + Clock + Copy + Send + Sync + Drop + 'static>(
+fn serve_with_status<R: Threads + Wait + Clock + Copy + Send + Sync + Drop + 'static>(
     rt: &HostRuntime,
     teller: Teller,
     log: ServerLog<'_, R>,
@@ -145,7 +145,7 @@ fn serve_told<R: Threads + Wait + Clock + Copy + Send + Sync + Drop + 'static>(
     };
     let socket = open_status(rt, teller, log.path(), status, &meter)?;
     let log = log.with_status(&socket);
-    let outcome = serve_logged(
+    let outcome = serve_device(
         rt,
         teller,
         log,
@@ -180,7 +180,7 @@ fn open_status<'a>(
 }
 
 // Opens the device and serves it, with a log.
-fn serve_logged<'a, R: Threads + Wait + Clock + Copy + Send + Sync + Drop + 'static>(
+fn serve_device<'a, R: Threads + Wait + Clock + Copy + Send + Sync + Drop + 'static>(
     rt: &HostRuntime,
     teller: Teller,
     log: ServerLog<'a, R>,

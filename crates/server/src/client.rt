@@ -42,8 +42,22 @@ impl Client {
         }
     }
 
-    // Sends what it takes of these two pieces, by one call.
-    fn send<'b>(&self, first: &'b [u8], second: &'b [u8]) -> io::Result<usize> {
+    // Sends what it takes of this piece.
+    fn send(&self, piece: &[u8]) -> io::Result<usize> {
+        match self {
+            Client::Tcp(stream) => {
+                let mut stream = stream;
+                stream.write(piece)
+            }
+            Client::Unix(stream) => {
+                let mut stream = stream;
+                stream.write(piece)
+            }
+        }
+    }
+
+    // Sends what it takes of these two pieces, by one call. (A call for one piece costs less.)
+    fn send_both<'b>(&self, first: &'b [u8], second: &'b [u8]) -> io::Result<usize> {
         let pieces = [IoSlice::new(first), IoSlice::new(second)];
         match self {
             Client::Tcp(stream) => stream.write_vectored(&pieces),
@@ -140,7 +154,7 @@ impl<'a> Write for Output<'a> {
             if waiting == 0 {
                 break;
             }
-            let count = self.client.send(self.waiting(), buf)?;
+            let count = self.client.send_both(self.waiting(), buf)?;
             if count == 0 {
                 return Ok(0);
             }
@@ -149,7 +163,7 @@ impl<'a> Write for Output<'a> {
                 return Ok((count - waiting).min(buf.len()));
             }
         }
-        let count = self.client.send(&[], buf)?;
+        let count = self.client.send(buf)?;
         Ok(count.min(buf.len()))
     }
 
@@ -158,7 +172,7 @@ impl<'a> Write for Output<'a> {
             if self.waiting().is_empty() {
                 return Ok(());
             }
-            let count = self.client.send(self.waiting(), &[])?;
+            let count = self.client.send(self.waiting())?;
             if count == 0 {
                 break;
             }
