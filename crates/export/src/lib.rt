@@ -12,6 +12,7 @@ mod figures;
 mod flushing;
 mod gathering;
 mod laws;
+mod locking;
 mod log_mode;
 mod loss;
 mod name;

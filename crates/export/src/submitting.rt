@@ -21,6 +21,7 @@ use crate::client_pass::ClientPass;
 use crate::commit_queue::Planned;
 use crate::edges::MissingEdges;
 use crate::export::Export;
+use crate::locking::lock_patiently;
 use crate::name::ExportName;
 use crate::retired::{LastPass, RetiredPass};
 use crate::second_handle::ReadUnlocked;
@@ -146,19 +147,22 @@ impl<B: ExportName, D: Disk, H: ReadUnlocked, T: Trust> Export<B, D, H, T> {
         unreachable!()
     }
 
-    /// Takes back a reply that isn't needed any more, and keeps its buffer for a READ.
-    pub fn reuse<R: Wait>(&self, rt: &R, reply: Reply) {
+    /// Takes back a reply that isn't needed any more. It keeps the buffer of a long READ for another one, and gives back that of a short
+    /// one, which a request may bring as its data's.
+    pub fn reuse<R: Wait>(&self, rt: &R, reply: Reply) -> Option<Vec<u8>> {
         match reply.answer {
             Answer::Bytes(read) => self.keep_buffer(rt, read.into_bytes()),
-            _answer => {}
+            _answer => None,
         }
     }
 
-    // Keeps a long buffer for another READ.
-    fn keep_buffer<R: Wait>(&self, rt: &R, buffer: Vec<u8>) {
-        if buffer.len() >= LEAST_KEPT {
-            self.buffers.lock(rt).put(buffer);
+    // Keeps a long buffer for another READ, and gives back a short one.
+    fn keep_buffer<R: Wait>(&self, rt: &R, buffer: Vec<u8>) -> Option<Vec<u8>> {
+        if buffer.len() < LEAST_KEPT {
+            return Some(buffer);
         }
+        self.buffers.lock(rt).put(buffer);
+        None
     }
 
     // Tries to serve a request, under the order's lock alone if it can. Without room it gives the request back, mostly after a wait.
@@ -172,7 +176,7 @@ impl<B: ExportName, D: Disk, H: ReadUnlocked, T: Trust> Export<B, D, H, T> {
         requires { MayServe T.logs T.trusted T.mode T.image B.opening B.image B.vouches B.trusted B.geometry request terms pass.old.client }
         ensures { IsServedAs T.logs T.trusted T.image B.opening B.image B.vouches B.trusted request terms pass.old pass.new result }
     {
-        let mut queue = self.queue.lock(rt);
+        let mut queue = lock_patiently(rt, &self.queue);
         let served = match queue.serve(self.alloc, request, &self.board, pass, terms) {
             Ok(served) => served,
             Err(NeedsKeeper(back)) => {
@@ -287,7 +291,7 @@ impl<B: ExportName, D: Disk, H: ReadUnlocked, T: Trust> Export<B, D, H, T> {
             let Ok(()) = self.read_span(handle, blocks.first, planned, &mut bytes) else {
                 return Some(refuse(request, terms, Errno::Io));
             };
-            let mut queue = self.queue.lock(rt);
+            let mut queue = lock_patiently(rt, &self.queue);
             let served = queue.serve_over(
                 self.alloc,
                 handle,
@@ -391,7 +395,7 @@ impl<B: ExportName, D: Disk, H: ReadUnlocked, T: Trust> Export<B, D, H, T> {
         if self.board.look_durable(pass) >= number {
             return Answer::Done;
         }
-        let mut queue = self.queue.lock(rt);
+        let mut queue = lock_patiently(rt, &self.queue);
         // If the number is durable by now, no waiter is counted.
         if self.board.look_durable(pass) >= number {
             return Answer::Done;
@@ -408,7 +412,7 @@ impl<B: ExportName, D: Disk, H: ReadUnlocked, T: Trust> Export<B, D, H, T> {
                 Some(group) => {
                     drop(queue);
                     self.store_for_waiter(rt, points, group);
-                    self.queue.lock(rt)
+                    lock_patiently(rt, &self.queue)
                 }
                 None => self.signals.progress.wait(rt, queue),
             };

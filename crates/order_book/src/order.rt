@@ -1,4 +1,4 @@
-ghost use Rattle.std.specs.Prelude.{◌≡◌, ◌≢◌, ◌+◌, ◌*◌, ◌<◌, ◌≤◌, ◌/◌, ◌%◌, ◌↔◌, ◌^◌, [], ℕ, max, List, length, slice_index, slice_index_or, sum, true, false, ◌⊎◌, Some, None, IsErr, IsErrAnd, IfErr, IfOk, IfSome, IfNone, IsTrue, OnErr, OnOk};
+ghost use Rattle.std.specs.Prelude.{◌≡◌, ◌≢◌, ◌+◌, ◌*◌, ◌<◌, ◌≤◌, ◌/◌, ◌%◌, ◌↔◌, ◌^◌, [], ℕ, max, List, length, slice_index, slice_index_or, sum, true, false, ◌⊎◌, Some, None, IsErr, IsErrAnd, IfErr, IfOk, IfSome, IfNone, IsTrue, OnErr, OnOk, vec_len, vec_capacity};
 ghost use Rattle.std.specs.FinMap.{len};
 ghost use mathlib.Core.List.{IsPrefix};
 ghost use Rattle.alloc_map.specs.Codes.{state_at};
@@ -13,6 +13,7 @@ ghost use Rattle.journal_format.specs.Reading.{IsOnlyRead};
 ghost use Rattle.marks.specs.Client.{HasAsked, HasFlushed, accepting, flushing};
 ghost use Rattle.marks.specs.Known.{known};
 ghost use Rattle.image_model.specs.Command.{IsCommand};
+ghost use Rattle.image_model.specs.Edit.{blocks_met};
 ghost use Rattle.image_model.specs.Image.{Image, apply as image_after};
 ghost use Rattle.order_book.specs.Cached.{ShowsCommand};
 ghost use Rattle.order_book.specs.Reading.{GivesBase, IsCleanAt, IsKept, LiesIn, ShowsRead};
@@ -30,7 +31,7 @@ use crate::fault::OrderFault;
 use crate::kept::Kept;
 use crate::pending::{PendingCommands, have_small_bodies};
 use crate::reading::{
-    holds, keep_blocks, missing_span, put_cached_over, read_all_in_memory, read_blocks,
+    copy_in_memory, holds, keep_blocks, missing_span, put_cached_over, read_blocks,
 };
 use crate::span::Span;
 use alloc_map::{AllocMap, Run};
@@ -547,20 +548,26 @@ impl<B: BoardName> Order<B> {
         holds(&self.cache, first, count)
     }
 
-    /// Reads blocks that are all in memory, from `first` on, as all that was accepted left them.
-    pub fn read_in_memory(&self, first: u64, into: &mut [u8])
-        requires whole { length into.old % 4096 ≡ 0 }
-        requires range { first + length into.old / 4096 ≤ length self.now.cache.states }
-        requires held { LacksBytes self.now.cache first (length into.old / 4096) → ⊥ }
-        ensures size { length into.new ≡ length into.old }
-        ensures there { (j : ℕ) → 4096 * j < length into.new → bytes_seen self.now.cache (first + j) ≢ None }
-        ensures in_memory { (j k : ℕ) (bytes : List ℕ) → 4096 * j < length into.new → k < 4096
-            → bytes_seen self.now.cache (first + j) ≡ Some bytes → slice_index into.new (4096 * j + k) ≡ slice_index bytes k }
-        ensures image { (image : Image) → ShowsImage image self.now.cache → (j k : ℕ) → 4096 * j < length into.new → k < 4096
-            → slice_index into.new (4096 * j + k) ≡ image.byte (4096 * (first + j) + k) }
+    /// The bytes from this offset on, as all that was accepted left them, of blocks that are all in memory. They take the memory of
+    /// `room`, and more if that isn't enough. Refusal 0 (no memory).
+    pub fn copy_in_memory(
+        &self,
+        room: Vec<u8>,
+        offset: u64,
+        count: usize,
+    ) -> Result<Vec<u8>, AllocError>
+        requires range { offset + count ≤ 4096 * length self.now.cache.states }
+        requires few { length self.now.cache.states ≤ 16777216 }
+        requires held { LacksBytes self.now.cache (offset / 4096) (blocks_met offset count) → ⊥ }
+        ensures size { IfOk result (λ bytes. vec_len bytes ≡ count) }
+        ensures full { OnErr result (vec_capacity room < count) }
+        ensures there { IfOk result (λ bytes. (k : ℕ) → k < count → bytes_seen self.now.cache ((offset + k) / 4096) ≢ None) }
+        ensures in_memory { IfOk result (λ bytes. (k : ℕ) (block : List ℕ) → k < count → bytes_seen self.now.cache ((offset + k) / 4096) ≡ Some block
+            → slice_index bytes.items k ≡ slice_index block ((offset + k) % 4096)) }
+        ensures image { (image : Image) → ShowsImage image self.now.cache → IfOk result (λ bytes. (k : ℕ) → k < count → slice_index bytes.items k ≡ image.byte (offset + k)) }
     {
         let _blocks = self.blocks();
-        read_all_in_memory(&self.cache, first, into)
+        copy_in_memory(room, &self.cache, offset, count)
     }
 
     /// Reads blocks from `first` on, as all that was accepted left them: those in memory from there, and each run of the others

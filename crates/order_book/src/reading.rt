@@ -1,8 +1,9 @@
-ghost use Rattle.std.specs.Prelude.{◌≡◌, ◌≢◌, ◌⊎◌, ◌+◌, ◌*◌, ◌/◌, ◌%◌, ◌<◌, ◌≤◌, ◌^◌, ◌↔◌, ◌-◌, ℕ, List, length, slice_index, Some, None, false, IfErr, IfOk, IsTrue, OnOk, OnErr};
+ghost use Rattle.std.specs.Prelude.{◌≡◌, ◌≢◌, ◌⊎◌, ◌+◌, ◌*◌, ◌/◌, ◌%◌, ◌<◌, ◌≤◌, ◌^◌, ◌↔◌, ◌-◌, ℕ, List, length, slice_index, Some, None, false, IfErr, IfOk, IsTrue, OnOk, OnErr, vec_len, vec_capacity};
 ghost use Rattle.checkpoint.specs.Keeper.{faults_by, refused_by};
 ghost use Rattle.checkpoint.specs.declared.fault.KeeperFault.TheVariants as KeeperFault;
 ghost use Rattle.device_image.specs.Holds.{Holds, is_written, joined};
 ghost use Rattle.image_model.specs.Change.{Change};
+ghost use Rattle.image_model.specs.Edit.{blocks_met};
 ghost use Rattle.image_model.specs.Image.{Image};
 ghost use Rattle.image_model.specs.declared.command.Kind.TheVariants.{Data};
 ghost use Rattle.journal_format.specs.Reading.{IsOnlyRead};
@@ -16,8 +17,9 @@ use crate::kept::Kept;
 use crate::span::Span;
 use checkpoint::{Keeper, KeeperFault};
 use disk_model::Disk;
-use image_model::Kind;
+use image_model::{BLOCK_BYTES, Kind};
 use shared_cache::{Cache, KeepFault};
+use std::alloc::AllocError;
 
 /// The bytes of a block.
 pub(crate) const BLOCK: usize = 4_096;
@@ -47,6 +49,37 @@ fn read_in_memory(cache: &Cache, first: u64, from: usize, into: &mut [u8]) -> us
     blocks
 }
 
+// The bytes of the image from this offset on, of blocks that are all in memory, in the memory of `room` if that is enough.
+pub(crate) fn copy_in_memory(
+    room: Vec<u8>,
+    cache: &Cache,
+    offset: u64,
+    count: usize,
+) -> Result<Vec<u8>, AllocError>
+    requires range { offset + count ≤ 4096 * length cache.now.states }
+    requires few { length cache.now.states ≤ 16777216 }
+    requires held { LacksBytes cache.now (offset / 4096) (blocks_met offset count) → ⊥ }
+    ensures size { IfOk result (λ bytes. vec_len bytes ≡ count) }
+    ensures full { OnErr result (vec_capacity room < count) }
+    ensures there { IfOk result (λ bytes. (k : ℕ) → k < count → bytes_seen cache.now ((offset + k) / 4096) ≢ None) }
+    ensures bytes { IfOk result (λ bytes. (k : ℕ) (block : List ℕ) → k < count → bytes_seen cache.now ((offset + k) / 4096) ≡ Some block
+        → slice_index bytes.items k ≡ slice_index block ((offset + k) % 4096)) }
+{
+    let mut bytes = room;
+    bytes.clear();
+    bytes.reserve(count)?;
+    while bytes.len() < count {
+        let place = offset + bytes.len() as u64;
+        let Some(block) = cache.read(place / BLOCK_BYTES) else {
+            unreachable!();
+        };
+        let from = (place % BLOCK_BYTES) as usize;
+        let to = BLOCK.min(from + count - bytes.len());
+        bytes.extend_from_slice(&block[from..to])?;
+    }
+    Ok(bytes)
+}
+
 // Whether this many blocks from the first one on are all in memory.
 pub(crate) fn holds(cache: &Cache, first: u64, count: u64) -> bool
     requires range { first + count ≤ length cache.now.states }
@@ -59,20 +92,6 @@ pub(crate) fn holds(cache: &Cache, first: u64, count: u64) -> bool
         };
     }
     true
-}
-
-// Reads blocks that are all in memory.
-pub(crate) fn read_all_in_memory(cache: &Cache, first: u64, into: &mut [u8])
-    requires whole { length into.old % 4096 ≡ 0 }
-    requires range { first + length into.old / 4096 ≤ length cache.now.states }
-    requires fits { first + length into.old / 4096 < 2 ^ 64 }
-    requires held { LacksBytes cache.now first (length into.old / 4096) → ⊥ }
-    ensures size { length into.new ≡ length into.old }
-    ensures there { (j : ℕ) → 4096 * j < length into.new → bytes_seen cache.now (first + j) ≢ None }
-    ensures in_memory { (j k : ℕ) (bytes : List ℕ) → 4096 * j < length into.new → k < 4096
-        → bytes_seen cache.now (first + j) ≡ Some bytes → slice_index into.new (4096 * j + k) ≡ slice_index bytes k }
-{
-    read_in_memory(cache, first, 0, into);
 }
 
 // The end of the run of blocks that aren't in memory, from this one of N on.

@@ -64,10 +64,12 @@ fn cut(bytes: &mut Vec<u8>, head: &RequestHead)
     bytes.truncate(count);
 }
 
-// Serves a READ that passes judgement, of blocks that are all in memory, over an order that isn't stopped.
+// Serves a READ that passes judgement, of blocks that are all in memory, over an order that isn't stopped. Its bytes take the memory
+// of `room`, and more if that isn't enough.
 pub(crate) fn serve_held_read<B: BoardName>(
     alloc: Global,
     head: &RequestHead,
+    room: Vec<u8>,
     order: &Order<B>,
 ) -> Served
     requires kind { head.now.kind ≡ 0 }
@@ -81,12 +83,9 @@ pub(crate) fn serve_held_read<B: BoardName>(
     let Ok(runs) = read_runs(alloc, order, head.offset, head.length) else {
         return refuse(head.cookie, Errno::NoMemory);
     };
-    let blocks = Blocks::from_head(head);
-    let Ok(mut bytes) = vec![in alloc; 0; blocks.bytes()] else {
+    let Ok(bytes) = order.copy_in_memory(room, head.offset, head.length as usize) else {
         return refuse(head.cookie, Errno::NoMemory);
     };
-    order.read_in_memory(blocks.first, &mut bytes);
-    cut(&mut bytes, head);
     Served::Ready(Reply {
         cookie: head.cookie,
         answer: bytes_answer(head, order, bytes, runs),

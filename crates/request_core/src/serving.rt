@@ -120,7 +120,8 @@ fn serve_passed<B: BoardName, T: Trust>(
         READ => {
             let blocks = Blocks::from_head(&head);
             if order.holds(blocks.first, blocks.count) {
-                Ok(serve_held_read(alloc, &head, order))
+                let (_head, room) = request.into_parts();
+                Ok(serve_held_read(alloc, &head, room, order))
             } else {
                 Err(NeedsKeeper(request))
             }

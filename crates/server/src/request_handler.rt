@@ -55,6 +55,8 @@ pub struct RequestHandler<
     pub has_agreed: &'a AtomicBool,
     // The name that clients ask for the export by.
     pub name: OfferedName<'a>,
+    // The buffer of the last short READ, for the next one.
+    pub buffer: &'a Cell<Option<Vec<u8>>>,
 }
 
 impl<
@@ -111,6 +113,7 @@ impl<
             None
         };
         let mut points = self.watch;
+        let request = self.with_buffer(request);
         let reply = self
             .export
             .submit(self.rt, &mut points, pass, request, flags);
@@ -122,7 +125,9 @@ impl<
     }
 
     fn reuse(&self, reply: Reply) {
-        self.export.reuse(self.rt, reply);
+        if let Some(buffer) = self.export.reuse(self.rt, reply) {
+            self.buffer.set(Some(buffer));
+        }
     }
 }
 
@@ -135,6 +140,26 @@ impl<
     R: Wait + Clock,
     L: SyncPoints + Watch + Copy,
 > RequestHandler<'a, B, D, H, T, R, L> {
+    // The same request. A READ gets the buffer of the one before it, if that is long enough: its bytes are copied into the memory
+    // that it brings, so none has to be taken under the order's lock.
+    fn with_buffer(&self, request: Request) -> Request
+        ensures { result ≡ request }
+    {
+        let head = request.head();
+        if head.kind != READ {
+            return request;
+        }
+        let Some(mut buffer) = self.buffer.replace(None) else {
+            return request;
+        };
+        if buffer.capacity() < head.length as usize {
+            return request;
+        }
+        let (head, _none) = request.into_parts();
+        buffer.clear();
+        Request::new(head, buffer)
+    }
+
     // Whether a request with this head is answered once something is stored.
     fn waits_for_store(&self, head: &RequestHead) -> bool {
         let fua = CommandFlags::FUA.bits();

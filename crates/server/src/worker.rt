@@ -162,11 +162,12 @@ impl<'a, B: ServerName> WorkerPool<'a, B> {
     }
 }
 
-// What a session tells while it lasts: what was asked for, and whether what is written are replies.
+// What a session notes while it lasts: what was asked for, whether what is written are replies, and the buffer of its last short READ.
 #[derive(Drop)]
 struct SessionNotes {
     traffic: Cell<Traffic>,
     is_replying: Cell<bool>,
+    buffer: Cell<Option<Vec<u8>>>,
 }
 
 /// What a thread of a server does.
@@ -326,6 +327,7 @@ impl<
                 bytes_written: 0,
             }),
             is_replying: Cell::new(false),
+            buffer: Cell::new(None),
         };
         let end = self.serve_client(pass, session, &told);
         let mut points = self.watch;
@@ -361,6 +363,7 @@ impl<
             is_replying: &told.is_replying,
             has_agreed: &session.has_agreed,
             name: self.name,
+            buffer: &told.buffer,
         };
         let mut output = WatchedOutput {
             inner: Output::new(self.pool.alloc, client),
