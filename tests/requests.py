@@ -218,6 +218,28 @@ def lengths(folder):
             check(f"another magic number at {place}", reply(7), answers(connect_structured, path, [sent], 16))
 
 
+def buffers(folder):
+    """READs whose lengths rise and fall, on two connections, with other requests between them. A short READ takes the buffer of the one before it."""
+    blocks, lengths = 64, (1, BLOCK, 512, 65535, 65536, 65537, BLOCK - 1, 3, 2 * 65536, 100, BLOCK + 1, 2)
+    image = bytearray((place * 7 + place // BLOCK * 13) % 251 for place in range(blocks * BLOCK))
+    with serve_new(folder, "buffers", blocks) as path, connect(path) as one, connect(path) as other:
+        for client in (one, other):
+            shake(client)
+        one.sendall(request(WRITE, 1, 0, len(image)) + image)
+        check("the image is written", reply(1), checks.take(one, 16))
+        for turn, length in enumerate(lengths * 2):
+            place = turn * 5003 % (len(image) - length + 1)
+            for client, offset in ((one, place), (other, len(image) - length - place), (one, 0)):
+                # (two at once: the second one's buffer is the first one's)
+                client.sendall(request(READ, turn, offset, length) + request(READ, turn + 1, offset // 2, length))
+                wanted = reply(turn) + image[offset:offset + length] + reply(turn + 1) + image[offset // 2:offset // 2 + length]
+                found = checks.take(client, len(wanted))
+                check(f"READs of {length} bytes at {offset} and {offset // 2}, turn {turn}", True, found == wanted or (len(wanted), len(found)))
+            image[place:place + 3] = bytes((turn, 255, turn))
+            other.sendall(request(WRITE, 3, place, 3) + bytes((turn, 255, turn)) + request(FLUSH, 4))
+            check(f"a WRITE and a FLUSH, turn {turn}", reply(3) + reply(4), checks.take(other, 32))
+
+
 def ordered(folder):
     """In ordered a FLUSH and FUA are answered Ok, though they make nothing durable. Invalid requests are refused as in other modes."""
     with serve_new(folder, "ordered", 16, "--cache", "ordered", "--flush-interval", "0") as path:
@@ -226,4 +248,4 @@ def ordered(folder):
 
 
 if __name__ == "__main__":
-    sys.exit(checks.run_scenarios((requests, nothing, beginnings, by_turns, flags, lengths, ordered)))
+    sys.exit(checks.run_scenarios((requests, nothing, beginnings, by_turns, flags, lengths, buffers, ordered)))
