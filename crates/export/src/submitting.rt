@@ -148,7 +148,7 @@ impl<B: ExportName, D: Disk, H: ReadUnlocked, T: Trust> Export<B, D, H, T> {
     }
 
     /// Takes back a reply that isn't needed any more. It keeps the buffer of a long READ for another one, and gives back that of a short
-    /// one, which a request may bring as its data's.
+    /// one: a READ that brings it gets its bytes in it.
     pub fn reuse<R: Wait>(&self, rt: &R, reply: Reply) -> Option<Vec<u8>> {
         match reply.answer {
             Answer::Bytes(read) => self.keep_buffer(rt, read.into_bytes()),

@@ -1,6 +1,6 @@
 -- what a client is at once its request was served
 use Rattle.std.specs.Prelude.{MatchBool}
-use Rattle.std.proofs.Common.{◌≡◌, ◌+◌, ◌<◌, ◌==◌, ℕ, Bool, true, false, if◌then◌else◌, List, nat_lt, ⊎_elim, inl, inr, ap, refl, sym, subst, arith, ◌∙◌}
+use Rattle.std.proofs.Common.{◌≡◌, ◌+◌, ◌==◌, ℕ, Bool, true, false, if◌then◌else◌, List, nat_lt, ⊎_elim, inl, inr, ap, refl, sym, subst, arith, ◌∙◌}
 use Rattle.std.proofs.lemmas.Bool.{lt-ltb}
 use Rattle.std.proofs.lemmas.Bool.Decides.{nat_tests}
 use Rattle.alloc_map.specs.Codes.{state_at}
@@ -15,7 +15,7 @@ use Rattle.nbd_wire.specs.declared.error.Errno.{Errno}
 use Rattle.nbd_wire.specs.declared.error.Errno.TheVariants.{Io, NoMemory}
 use Rattle.nbd_wire.specs.declared.head.RequestHead.{RequestHead}
 use Rattle.nbd_wire.specs.declared.message.Answer.{Answer}
-use Rattle.nbd_wire.specs.declared.message.Answer.TheVariants.{Bytes, Done, Refused, States}
+use Rattle.nbd_wire.specs.declared.message.Answer.TheVariants.{Bytes, Refused, States}
 use Rattle.nbd_wire.specs.declared.message.Run.{Run}
 use Rattle.order_book.specs.Edits.{HasAskedEdit}
 use Rattle.order_book.specs.Order.{OrderState}

@@ -1,4 +1,4 @@
-use Rattle.std.proofs.Common.{◌≡◌, ◌≢◌, ◌+◌, ◌-◌, ◌*◌, ◌/◌, ◌%◌, ℕ, inr, List, replicate, get_or, length, None, Some, sym, ◌∙◌, ap, refl, arith, inl, rules}
+use Rattle.std.proofs.Common.{◌≡◌, ◌+◌, ◌-◌, ◌/◌, ◌%◌, ℕ, inr, replicate, get_or, sym, ◌∙◌, ap, refl, arith, inl}
 use Rattle.alloc_map.specs.Codes.{state_at}
 use Rattle.image_model.specs.Image.{Image}
 use Rattle.nbd_wire.specs.declared.message.Answer.{Answer}

@@ -18,7 +18,7 @@ byte_held image cache place byte shows there held = by (bytes_seen cache (place 
 image_ok : {V E : Type 0} (items : V → List ℕ) (image : Image) (cache : CacheState) (offset count : ℕ) (result : Result V E) → ShowsImage image cache
     → IfOk result (λ bytes. (k : ℕ) → k < count → bytes_seen cache ((offset + k) / 4096) ≢ None)
     → IfOk result (λ bytes. (k : ℕ) (block : List ℕ) → k < count → bytes_seen cache ((offset + k) / 4096) ≡ Some block
-        → get_or (items bytes) k 0 ≡ get_or block ((offset + k) % 4096) 0)
+    → get_or (items bytes) k 0 ≡ get_or block ((offset + k) % 4096) 0)
     → IfOk result (λ bytes. (k : ℕ) → k < count → get_or (items bytes) k 0 ≡ image.byte (offset + k))
 image_ok items image cache offset count (Ok bytes) shows there same = λ k less. byte_held image cache (offset + k) _ shows (there k less) (λ block seen. same k block less seen)
 image_ok items image cache offset count (Err error) shows there same = tt
