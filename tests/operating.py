@@ -1,7 +1,8 @@
 #!/usr/bin/env python3
 """How `serve` of the built program NBDJ starts, runs and ends, as an operator sees it: what kills leave, eight clients at once, slow, failing
-and hanging devices, `--cache ordered`, limits on what is pending, stops, dead clients, another writer of the image, unreadable sectors, the
-log, more clients than workers, slow handshakes, several listeners, sockets from systemd, a log that nobody reads, a long start, and locks.
+and hanging devices, `--cache ordered`, limits on what is pending, stops, dead clients, another writer of the image, unreadable sectors,
+checkpoints that yield their processor, the log, more clients than workers, slow handshakes, several listeners, sockets from systemd, a log
+that nobody reads, a long start, and locks.
 
 usage: tests/operating.py [SCENARIO ..]          (SCENARIO: the name of one of the functions below that `main` lists; by default all)
 
@@ -27,8 +28,8 @@ from concurrent.futures import ThreadPoolExecutor
 
 import checks
 from checks import (
-    BLOCK, BLOCKS, DISC, EIO, FLAGS, FLUSH, FRAMES, FUA, HANDSHAKE, LONG_HANDSHAKE, MIB, NBDJ, READ, TOP, TRIM, WRITE, ZEROES, Server, block_of, check,
-    connect, format_image, read_address, preload_settings, reply, request, run, run_scenario, serve, take,
+    BLOCK, BLOCKS, DISC, EIO, FLAGS, FLUSH, FRAMES, FUA, HANDSHAKE, LONG_HANDSHAKE, MIB, NBDJ, READ, TOP, TRIM, WRITE, ZEROES, Server, block_of,
+    build_preload, check, connect, format_image, read_address, preload_settings, reply, request, run, run_scenario, serve, take,
 )
 
 SECTOR = 512
@@ -711,6 +712,27 @@ def unreadable(folder):
     check("unreadable: what was flushed is there", [], amiss[:9])
 
 
+def yielding(folder):
+    """Between two steps of a checkpoint other threads may take its processor. A step copies at most 4 blocks that lie apart, or 16 once half of
+    the frames are dirty."""
+    for name, apart, most in (("yielding", FRAMES * 3 // 8, 4), ("yielding half dirty", FRAMES * 5 // 8, 16)):
+        log, copied = os.path.join(folder, f"{name}.calls"), []
+        # (while the first group is stored, which takes so long, all is written; and a quarter of the frames is dirty, so a checkpoint begins)
+        settings = preload_settings(folder, "fail_calls", CALLS_LOG=log, SLOW_SYNC_US="400000")
+        settings["env"]["LD_PRELOAD"] += f":{build_preload(folder, 'slow_sync')}"
+        with Server(folder, name, 1, **settings) as server, server.new_client() as client:
+            client.sendall(b"".join(request(WRITE, number, 2 * number * BLOCK, BLOCK) + block_of(number) for number in range(1, apart + 1)))
+            check(f"{name}: writes", b"".join(map(reply, range(1, apart + 1))), take(client, 16 * apart))
+            client.sendall(request(FLUSH, apart + 1))
+            check(f"{name}: a flush", reply(apart + 1), take(client, 16))
+            end = time.monotonic() + 20
+            while sum(copied) < FRAMES // 4 and time.monotonic() < end:
+                time.sleep(0.05)
+                copied = [step.count(b"posix_fadvise") for step in read_file(log).split(b"sched_yield")]
+        check(f"{name}: blocks are copied", True, FRAMES // 4 <= sum(copied))
+        check(f"{name}: the most blocks of a step", most, max(copied))
+
+
 def told(folder):
     """What the log has of two clients that come one after the other."""
     with Server(folder, "told", 1, "--verbose") as server:
@@ -1121,8 +1143,8 @@ def shut_out(folder):
 
 def main():
     scenarios = [kills, intervals, sectors, in_turn, eight, beside, unflushed, bounded, shown, asked_to_end, managed, idle, failing, second_writer,
-                 failing_amid_eight, gathered, unreadable, told, refused_when_full, silent_handshakes, many_listeners, activated, crowded, unheard, copied,
-                 long_opening, waiting, late, shut_out]
+                 failing_amid_eight, gathered, unreadable, yielding, told, refused_when_full, silent_handshakes, many_listeners, activated, crowded,
+                 unheard, copied, long_opening, waiting, late, shut_out]
     unknown = set(sys.argv[1:]) - {it.__name__ for it in scenarios}
     if unknown:
         sys.exit(f"operating.py: there is no scenario {', '.join(sorted(unknown))}")

@@ -10,8 +10,10 @@
 #    16 MiB (layout 2: 8).
 # 5. Random WRITEs over 2 GiB for SUSTAINED_SECONDS (120), over images that were written by 1 MiB and by 4 KiB: nbdj with two sizes of frames and
 #    areas, and nbdkit's file plugin, each limited to 256 MiB of memory with its page cache. It needs root and the memory controller of cgroups.
+# 6. How long single requests take: nbdj and nbdkit's file plugin.
 #
-# TABLES (servers syncs filling) says which are made: servers the first two, syncs the third, filling the fourth, sustained the fifth.
+# TABLES (servers syncs filling) says which are made: servers the first two, syncs the third, filling the fourth, sustained the fifth, tails the
+# sixth.
 # It needs cc and Debian's libnbd-dev, nbdkit and qemu-utils. Each server is measured ROUNDS (1) times, and the medians are printed. A measurement
 # takes BENCH_SECONDS (4); then each client waits for answers that are due. The images are in BENCH_FOLDER, by default TMPDIR.
 set -eu
@@ -141,14 +143,14 @@ measure_servers() {
     row 'WRITE 4 KiB with FUA, 1 connection' '1/s' 0.8 fua.1
     row 'WRITE 4 KiB with FUA, 4 connections' '1/s' 1.0 fua.4
     row 'WRITE 4 KiB with FUA, 8 connections' '1/s' 1.0 fua.8
-    row 'WRITE 1 MiB in sequence, once over the image, FLUSH at the end' 'MiB/s' 0.6 sequential.1
+    row 'WRITE 1 MiB in sequence, once over the image, FLUSH at the end' 'MiB/s' 0.55 sequential.1
     row 'READ 4 KiB at random that hits, 1 connection' '1/s' 1.0 hit.read.1
     row 'READ 4 KiB at random that hits, 4 connections' '1/s' 1.0 hit.read.4
     row '7 READs of 4 KiB to 3 WRITEs at random, 4 connections' '1/s' 0.9 mixed.4
-    row 'READ 1 MiB in sequence that hits' 'MiB/s' 0.9 hit.read-long.1
-    row 'READ 1 MiB in sequence that misses' 'MiB/s' 0.9 read-long.1
-    row 'READ 64 KiB in sequence that hits' '1/s' 0.9 hit.read-64k.1
-    row 'READ 64 KiB in sequence that misses' '1/s' 0.9 read-64k.1
+    row 'READ 1 MiB in sequence that hits' 'MiB/s' 1.0 hit.read-long.1
+    row 'READ 1 MiB in sequence that misses' 'MiB/s' 1.0 read-long.1
+    row 'READ 64 KiB in sequence that hits' '1/s' 1.0 hit.read-64k.1
+    row 'READ 64 KiB in sequence that misses' '1/s' 1.0 read-64k.1
     # (a write of part of a block reads its old bytes, unless they are in memory)
     for connections in 1 4; do
         many=$([ $connections -eq 1 ] && echo '1 connection' || echo '4 connections')
@@ -282,12 +284,48 @@ measure_sustained() {
     rmdir "$group" 2>/dev/null || true
 }
 
+# The slowest requests.
+measure_tails() {
+    tailed='flushed 1
+flushed 4
+flushed 8
+fua 1
+fua 4
+fua 8
+write 1
+write 4'
+    round=0
+    while [ $round -lt "$rounds" ]; do
+        for it in nbdj nbdkit; do
+            serve $it
+            fill $it $blocks
+            sync
+            echo "$tailed" | while read -r kind connections; do
+                timeout 100 ./client times "nbd+unix:///?socket=$folder/$it.sock" "$kind" "$connections" "$seconds" $blocks >>"$it.$kind.$connections.times"
+                sync
+            done
+            stop
+        done
+        round=$((round + 1))
+    done
+
+    echo
+    echo '| Requests of 4 KiB at random | nbdj, 1/s | p50, p99, p99.9, longest, us | nbdkit file, 1/s | p50, p99, p99.9, longest, us | p99 to p99 |'
+    echo '|---|---|---|---|---|---|'
+    echo "$tailed" | while read -r kind connections; do
+        for it in nbdj nbdkit; do
+            name="$it.$kind.$connections.times"
+            echo "$(part "$name" 1)|$(part "$name" 2), $(part "$name" 3), $(part "$name" 4), $(part "$name" 5)|$(part "$name" 3)"
+        done | paste -s -d '|' | awk -F '|' -v what="$kind, connections: $connections" '{ printf "| %s | %s | %s | %s | %s | %.2f |\n", what, $1, $2, $4, $5, $3 / $6 }'
+    done
+}
+
 echo "$(uname -sr), $(nproc) processors, load $(cut -d ' ' -f 1-3 /proc/loadavg), images on $(df -T "$folder" | awk 'NR == 2 { print $2 }');"
 echo "$("$NBDJ" --version), $(nbdkit --version), $(qemu-nbd --version | head -n 1), libnbd $(nbdinfo --version | sed -n 's/^nbdinfo //p');"
 echo "$rounds rounds of $seconds s, an image of $((blocks / 256)) MiB."
 for table in ${TABLES:-servers syncs filling}; do
     case $table in
-    servers | syncs | filling | sustained) measure_$table ;;
+    servers | syncs | filling | sustained | tails) measure_$table ;;
     *) echo "bench: there is no table $table" >&2; exit 2 ;;
     esac
 done

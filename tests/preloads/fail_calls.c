@@ -1,7 +1,7 @@
-/* A preload that notes each `pwrite`, `fdatasync` and `posix_fadvise`, and can make calls fail.
+/* A preload that notes each `pwrite`, `fdatasync`, `posix_fadvise` and `sched_yield`, and can make calls fail.
  *
- * For each it adds a line to the file CALLS_LOG: 'pwrite OFFSET COUNT', 'fdatasync' or 'posix_fadvise OFFSET COUNT'. If FAIL_CALL is 'pwrite
- * N' or 'fdatasync N', the N-th such call, counted from 1, does nothing and fails with EIO; its line ends in ' failed'. If it is
+ * For each it adds a line to the file CALLS_LOG: 'pwrite OFFSET COUNT', 'fdatasync', 'posix_fadvise OFFSET COUNT' or 'sched_yield'. If
+ * FAIL_CALL is 'pwrite N' or 'fdatasync N', the N-th such call, counted from 1, does nothing and fails with EIO; its line ends in ' failed'. If it is
  * 'posix_fadvise', all of these fail. If it is 'flock N' or 'ftruncate N', that call fails with ENOLCK or EFBIG, as on a file system without
  * locks, or for a length that is too large; these calls aren't noted. If BAD_BYTE is a number, each `pread` that touches the byte at this
  * offset fails with EIO, like a sector that can't be read; these aren't noted either. */
@@ -21,6 +21,7 @@ static int (*next_fdatasync)(int);
 static int (*next_flock)(int, int);
 static int (*next_ftruncate)(int, off_t);
 static int (*next_advise)(int, off_t, off_t, int);
+static int (*next_yield)(void);
 
 static int notes = -1;
 static unsigned long fail_write;
@@ -41,6 +42,7 @@ __attribute__((constructor)) static void start(void) {
     next_flock = (int (*)(int, int))dlsym(RTLD_NEXT, "flock");
     next_ftruncate = (int (*)(int, off_t))dlsym(RTLD_NEXT, "ftruncate");
     next_advise = (int (*)(int, off_t, off_t, int))dlsym(RTLD_NEXT, "posix_fadvise");
+    next_yield = (int (*)(void))dlsym(RTLD_NEXT, "sched_yield");
     const char *path = getenv("CALLS_LOG");
     if (path) {
         notes = open(path, O_WRONLY | O_CREAT | O_APPEND, 0600);
@@ -119,6 +121,11 @@ int posix_fadvise(int file, off_t offset, off_t count, int advice) {
 
 int posix_fadvise64(int file, off_t offset, off_t count, int advice) {
     return posix_fadvise(file, offset, count, advice);
+}
+
+int sched_yield(void) {
+    note("sched_yield", 0);
+    return next_yield();
 }
 
 int flock(int file, int how) {

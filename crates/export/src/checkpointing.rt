@@ -2,13 +2,14 @@ use crate::export::Export;
 use crate::name::ExportName;
 use crate::second_handle::ReadUnlocked;
 use crate::shortage::Retries;
-use crate::storage_engine::{CopyStep, StorageEngine};
+use crate::storage_engine::{CopySpeed, CopyStep, StorageEngine};
 use crate::sync_points::{Point, SyncPoints};
 use checkpoint::KeeperFault;
 use disk_model::Disk;
 use marks::Trust;
 use std::rt::Clock;
 use std::sync::Wait;
+use std::thread;
 use std::time::{Duration, Instant};
 
 // What came of a hold of the keeper's lock.
@@ -120,8 +121,15 @@ impl<B: ExportName, D: Disk, H: ReadUnlocked, T: Trust> Export<B, D, H, T> {
         let turn = self.signals.turn.lock(rt);
         let mut engine = self.engine.lock(rt);
         drop(turn);
-        let step_outcome = self.take_step(rt, &mut engine);
+        let queue = self.queue.lock(rt);
+        let (is_full, speed) = (queue.is_full(), queue.copy_speed());
+        drop(queue);
+        let step_outcome = self.take_step(rt, &mut engine, is_full, speed);
         drop(engine);
+        if !matches!(speed, CopySpeed::Urgent) {
+            // A copy takes long and seldom waits: otherwise threads that wake on its processor would wait for milliseconds.
+            thread::yield_now();
+        }
         if !matches!(step_outcome, StepOutcome::NoMemory) && !state.retries.has_no_refusal() {
             state.retries = Retries::new();
             self.queue.lock(rt).set_cannot_copy(false);
@@ -163,9 +171,15 @@ impl<B: ExportName, D: Disk, H: ReadUnlocked, T: Trust> Export<B, D, H, T> {
 
     // Takes the first step that there is, under the keeper's lock. Another area is taken into use where none waits to be copied, and
     // where the last one is nearly full and one is free: no write waits for a copy then. Otherwise the first that waits is copied.
-    fn take_step<R: Wait>(&self, rt: &R, engine: &mut StorageEngine<B, D>) -> StepOutcome {
+    fn take_step<R: Wait>(
+        &self,
+        rt: &R,
+        engine: &mut StorageEngine<B, D>,
+        is_full: bool,
+        speed: CopySpeed,
+    ) -> StepOutcome {
         let is_first = engine.waiting() == 0;
-        if is_first || engine.is_nearly_full() || self.queue.lock(rt).is_full() {
+        if is_first || is_full || engine.is_nearly_full() {
             match engine.rotate() {
                 Ok(()) => {
                     // What didn't fit the last one is stored at once.
@@ -187,13 +201,18 @@ impl<B: ExportName, D: Disk, H: ReadUnlocked, T: Trust> Export<B, D, H, T> {
                 Err(fault) => return self.refused(rt, fault),
             }
         }
-        self.copy_on(rt, engine)
+        self.copy_on(rt, engine, speed)
     }
 
     // Copies a part of the first area. When its checkpoint ends, its blocks are made clean in the same critical section: the order knows of a base
     // before there is another one.
-    fn copy_on<R: Wait>(&self, rt: &R, engine: &mut StorageEngine<B, D>) -> StepOutcome {
-        let step = match engine.copy_on(&self.board) {
+    fn copy_on<R: Wait>(
+        &self,
+        rt: &R,
+        engine: &mut StorageEngine<B, D>,
+        speed: CopySpeed,
+    ) -> StepOutcome {
+        let step = match engine.copy_on(&self.board, speed) {
             Ok(step) => step,
             Err(fault) => return self.refused(rt, fault),
         };

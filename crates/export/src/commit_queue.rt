@@ -20,7 +20,7 @@ use crate::figures::{Notes, QueueFigures};
 use crate::gathering::Waiters;
 use crate::name::ExportName;
 use crate::second_handle::ReadUnlocked;
-use crate::storage_engine::{JournalUse, StorageEngine};
+use crate::storage_engine::{CopySpeed, JournalUse, StorageEngine};
 use crate::storing::FlushInterval;
 use crate::throttling::{Throttle, eighths_above};
 use checkpoint::Keeper;
@@ -476,6 +476,18 @@ impl<B: ExportName> CommitQueue<B> {
     // Whether a quarter of the frames is dirty.
     fn has_dirtied_many(&self) -> bool {
         self.order.order().dirty_blocks() as u64 * 4 >= self.frames as u64
+    }
+
+    /// How fast the checkpointer copies: fast once half of the frames are dirty, and with no regard for other threads where a group or
+    /// a write waits for room, or all passes have left.
+    pub(crate) fn copy_speed(&self) -> CopySpeed {
+        if self.is_full || self.lacks_room || self.passes == 0 {
+            CopySpeed::Urgent
+        } else if self.order.order().dirty_blocks() as u64 * 2 >= self.frames as u64 {
+            CopySpeed::Fast
+        } else {
+            CopySpeed::Gentle
+        }
     }
 
     /// How many microseconds a client waits that has written this many blocks.

@@ -1,8 +1,8 @@
 use crossbeam_utils::Backoff;
 use std::sync::{Mutex, MutexGuard, Wait};
 
-/// How often a thread tries to take a lock before it sleeps: 7 times before pauses of 1 to 64 turns of the processor, then before it
-/// lets other threads run.
+/// How often a thread tries to take a lock before it sleeps. After each of the first seven times it executes 1, 2, 4, .. 64 pause
+/// instructions; after each later one it lets other threads run.
 const MOST_TRIES: u32 = 18;
 
 /// Takes a lock whose critical sections are short. While another thread has it, it tries again for some microseconds before it sleeps,

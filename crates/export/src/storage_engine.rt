@@ -8,12 +8,6 @@ use journal::Group;
 use marks::{Board, Trust};
 use shared_store::{SealedGroup, SharedKeeper, Unstored};
 
-/// The most blocks that are copied in a hold of the keeper's lock: 1 MiB.
-const MOST_COPIED: u32 = 256;
-
-/// The most ranges that are copied in a hold, each in one read and one write.
-const MOST_RANGES: u32 = 16;
-
 /// What stands in an area round the commands of a group.
 const GROUP_BYTES: u64 = 17;
 
@@ -26,6 +20,27 @@ enum Stage {
     Map,
     // Its checkpoint is ended.
     Finish,
+}
+
+/// How fast the first area is copied.
+#[derive(Clone, Copy)]
+pub(crate) enum CopySpeed {
+    /// By short steps, so that those who wait for the keeper's lock don't wait long.
+    Gentle,
+    /// By long steps.
+    Fast,
+    /// By long steps, and other threads don't come first.
+    Urgent,
+}
+
+impl CopySpeed {
+    // The most that a step copies in one hold of the keeper's lock: blocks, and ranges of them, each in one read and one write.
+    fn limits(self) -> (u32, u32) {
+        match self {
+            CopySpeed::Gentle => (64, 4),
+            CopySpeed::Fast | CopySpeed::Urgent => (256, 16),
+        }
+    }
 }
 
 /// What a step of copying did.
@@ -169,9 +184,10 @@ impl<B: ExportName, D: Disk> StorageEngine<B, D> {
     pub(crate) fn copy_on<T: Trust>(
         &mut self,
         board: &Board<B, T>,
+        speed: CopySpeed,
     ) -> Result<CopyStep, KeeperFault> {
         match self.stage {
-            Stage::Copy => self.copy(),
+            Stage::Copy => self.copy(speed),
             Stage::Map => {
                 self.shared.write_map()?;
                 self.stage = Stage::Finish;
@@ -189,9 +205,10 @@ impl<B: ExportName, D: Disk> StorageEngine<B, D> {
     }
 
     // Copies the next blocks, as many as one hold takes; the map is next where none is left.
-    fn copy(&mut self) -> Result<CopyStep, KeeperFault> {
-        let mut left = MOST_COPIED;
-        for _ in 0..MOST_RANGES {
+    fn copy(&mut self, speed: CopySpeed) -> Result<CopyStep, KeeperFault> {
+        let (most, ranges) = speed.limits();
+        let mut left = most;
+        for _ in 0..ranges {
             if left == 0 {
                 break;
             }
@@ -204,6 +221,6 @@ impl<B: ExportName, D: Disk> StorageEngine<B, D> {
                 Err(fault) => return Err(fault),
             }
         }
-        Ok(CopyStep::Blocks(MOST_COPIED.saturating_sub(left) as u64))
+        Ok(CopyStep::Blocks(most.saturating_sub(left) as u64))
     }
 }

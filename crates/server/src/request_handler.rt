@@ -141,7 +141,7 @@ impl<
     L: SyncPoints + Watch + Copy,
 > RequestHandler<'a, B, D, H, T, R, L> {
     // The same request. A READ gets the buffer of the one before it, if that is long enough: its bytes are copied into the memory
-    // that it brings, so none has to be taken under the order's lock.
+    // that it brings, so no memory for them is taken under the order's lock.
     fn with_buffer(&self, request: Request) -> Request
         ensures { result ≡ request }
     {
