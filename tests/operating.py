@@ -713,24 +713,35 @@ def unreadable(folder):
 
 
 def yielding(folder):
-    """Between two steps of a checkpoint other threads may take its processor. A step copies at most 4 blocks that lie apart, or 16 once half of
-    the frames are dirty."""
-    for name, apart, most in (("yielding", FRAMES * 3 // 8, 4), ("yielding half dirty", FRAMES * 5 // 8, 16)):
+    """The checkpointer yields after each step if a FLUSH waits or waited for the last group; not if none did, nor while writers are slowed down or
+    the journal is full. A step copies at most 4 blocks that lie apart, or 16 once half of the frames are dirty."""
+    few, many, most = FRAMES * 3 // 8, FRAMES * 5 // 8, FRAMES * 15 // 16
+    # (while the first group is stored, which takes so long, all is written; and a quarter of the frames is dirty, so a checkpoint begins)
+    slow_syncs, slow_writes = {"SLOW_SYNC_US": "400000"}, {"SLOW_WRITE_US": "2000"}
+    for name, slow, apart, repeats, flush_after, longest in (
+        ("yielding", slow_syncs, few, 1, few, range(4, 5)), ("yielding half dirty", slow_syncs, many, 1, many, range(16, 17)),
+        ("yielding to nobody", slow_syncs, few, 1, FRAMES, range(17, FRAMES)), ("yielding though slowed", slow_syncs, most, 1, most, range(17, FRAMES)),
+        ("yielding though full", slow_writes, few, 16, few // 4, range(17, FRAMES)),
+    ):
         log, copied = os.path.join(folder, f"{name}.calls"), []
-        # (while the first group is stored, which takes so long, all is written; and a quarter of the frames is dirty, so a checkpoint begins)
-        settings = preload_settings(folder, "fail_calls", CALLS_LOG=log, SLOW_SYNC_US="400000")
+        settings = preload_settings(folder, "fail_calls", CALLS_LOG=log, **slow)
         settings["env"]["LD_PRELOAD"] += f":{build_preload(folder, 'slow_sync')}"
-        with Server(folder, name, 1, **settings) as server, server.new_client() as client:
-            client.sendall(b"".join(request(WRITE, number, 2 * number * BLOCK, BLOCK) + block_of(number) for number in range(1, apart + 1)))
-            check(f"{name}: writes", b"".join(map(reply, range(1, apart + 1))), take(client, 16 * apart))
-            client.sendall(request(FLUSH, apart + 1))
-            check(f"{name}: a flush", reply(apart + 1), take(client, 16))
+        # (only the last row fills half of an area)
+        format_image(os.path.join(folder, f"{name}.img"), "--blocks", str(BLOCKS), "--area", "2097152" if repeats > 1 else "8388608")
+        with Server(folder, name, 1, made=True, **settings) as server, server.new_client() as client:
+            sent = []
+            for number in range(1, apart * repeats + 1):
+                sent.append(request(WRITE, len(sent), 2 * (number % apart) * BLOCK, BLOCK) + block_of(number))
+                if number % flush_after == 0:
+                    sent.append(request(FLUSH, len(sent)))
+            threading.Thread(target=client.sendall, args=(b"".join(sent),)).start()
+            check(f"{name}: answers", b"".join(map(reply, range(len(sent)))), take(client, 16 * len(sent)))
             end = time.monotonic() + 20
             while sum(copied) < FRAMES // 4 and time.monotonic() < end:
                 time.sleep(0.05)
-                copied = [step.count(b"posix_fadvise") for step in read_file(log).split(b"sched_yield")]
+                copied = [calls.count(b"posix_fadvise") for calls in read_file(log).split(b"sched_yield")]
         check(f"{name}: blocks are copied", True, FRAMES // 4 <= sum(copied))
-        check(f"{name}: the most blocks of a step", most, max(copied))
+        check(f"{name}: the most blocks between two yields", True, max(copied) in longest or max(copied))
 
 
 def told(folder):

@@ -81,6 +81,20 @@ kill -TERM $one
 wait $one
 is 'the end of one after that' 0 $?
 
+# A stop is asked for, and nbdj ends before that is passed on, because the address is given back slowly.
+mkdir slow
+printf '#!/bin/sh\n[ ! -e slowly ] || sleep 1\nexec %s "$@"\n' "$(command -v ip)" >slow/ip
+chmod +x slow/ip
+PATH=$folder/slow:$PATH "$standby" d.img $first one --listen 127.0.0.1:0 >stopped.log 2>&1 &
+one=$!
+is 'one serves before a stop' yes "$(seen stopped.log "nbdj-standby: takes $first")"
+touch slowly
+kill -TERM $one
+kill -9 "$(pgrep -f "serve --until-eof d.img")"
+wait $one
+is 'its status and address after the stop' '137|' "$?|$(has one)"
+is 'no signal is sent to a process that is gone' 0 "$(grep -c 'kill:' stopped.log)"
+
 # A reason is printed once, and a refused command line ends it.
 "$standby" nothing.img $first one --listen 127.0.0.1:0 >one.log 2>&1 &
 one=$!

@@ -2,7 +2,7 @@ use crate::export::Export;
 use crate::name::ExportName;
 use crate::second_handle::ReadUnlocked;
 use crate::shortage::Retries;
-use crate::storage_engine::{CopySpeed, CopyStep, StorageEngine};
+use crate::storage_engine::{CopyStep, StepLength, StorageEngine};
 use crate::sync_points::{Point, SyncPoints};
 use checkpoint::KeeperFault;
 use disk_model::Disk;
@@ -122,12 +122,13 @@ impl<B: ExportName, D: Disk, H: ReadUnlocked, T: Trust> Export<B, D, H, T> {
         let mut engine = self.engine.lock(rt);
         drop(turn);
         let queue = self.queue.lock(rt);
-        let (is_full, speed) = (queue.is_full(), queue.copy_speed());
+        let is_full = queue.is_full();
+        let (length, yields) = queue.copy_pace(is_full || engine.is_short());
         drop(queue);
-        let step_outcome = self.take_step(rt, &mut engine, is_full, speed);
+        let step_outcome = self.take_step(rt, &mut engine, is_full, length);
         drop(engine);
-        if !matches!(speed, CopySpeed::Urgent) {
-            // A copy takes long and seldom waits: otherwise threads that wake on its processor would wait for milliseconds.
+        if yields {
+            // This thread seldom waits, so those that wake on its processor could wait for milliseconds.
             thread::yield_now();
         }
         if !matches!(step_outcome, StepOutcome::NoMemory) && !state.retries.has_no_refusal() {
@@ -176,7 +177,7 @@ impl<B: ExportName, D: Disk, H: ReadUnlocked, T: Trust> Export<B, D, H, T> {
         rt: &R,
         engine: &mut StorageEngine<B, D>,
         is_full: bool,
-        speed: CopySpeed,
+        length: StepLength,
     ) -> StepOutcome {
         let is_first = engine.waiting() == 0;
         if is_first || is_full || engine.is_nearly_full() {
@@ -201,7 +202,7 @@ impl<B: ExportName, D: Disk, H: ReadUnlocked, T: Trust> Export<B, D, H, T> {
                 Err(fault) => return self.refused(rt, fault),
             }
         }
-        self.copy_on(rt, engine, speed)
+        self.copy_on(rt, engine, length)
     }
 
     // Copies a part of the first area. When its checkpoint ends, its blocks are made clean in the same critical section: the order knows of a base
@@ -210,9 +211,9 @@ impl<B: ExportName, D: Disk, H: ReadUnlocked, T: Trust> Export<B, D, H, T> {
         &self,
         rt: &R,
         engine: &mut StorageEngine<B, D>,
-        speed: CopySpeed,
+        length: StepLength,
     ) -> StepOutcome {
-        let step = match engine.copy_on(&self.board, speed) {
+        let step = match engine.copy_on(&self.board, length) {
             Ok(step) => step,
             Err(fault) => return self.refused(rt, fault),
         };

@@ -20,7 +20,7 @@ use crate::figures::{Notes, QueueFigures};
 use crate::gathering::Waiters;
 use crate::name::ExportName;
 use crate::second_handle::ReadUnlocked;
-use crate::storage_engine::{CopySpeed, JournalUse, StorageEngine};
+use crate::storage_engine::{JournalUse, StepLength, StorageEngine};
 use crate::storing::FlushInterval;
 use crate::throttling::{Throttle, eighths_above};
 use checkpoint::Keeper;
@@ -259,10 +259,8 @@ impl<B: ExportName> CommitQueue<B> {
         ensures size { IfErr result (λ back. vec_len back ≡ 4096 * blocks_met request.now.head.offset request.now.head.length) }
         ensures noted_base { self.new.noted_base ≡ self.old.noted_base }
         ensures over { IfOk result (λ served. IsReadOverServed request.now.head planned.span bytes.items self.old.order self.new.order served) }
-
         // No bytes are served that were read at another noted base.
         ensures other_base { planned.noted_base.number ≢ self.old.noted_base.number → IsErr result }
-
         // Where the bytes come back order and pass are as they were, and the rest of the queue is always.
         ensures unchanged { OnErr result ((self.new.order ≡ self.old.order) × (pass.new ≡ pass.old)) }
         ensures rest { (self.new.frames ≡ self.old.frames) × (self.new.passes ≡ self.old.passes) × (self.new.wanted ≡ self.old.wanted)
@@ -466,28 +464,28 @@ impl<B: ExportName> CommitQueue<B> {
         ensures bounds { KeepsBounds self.old self.new }
         ensures order { self.new.order ≡ self.old.order }
     {
-        if self.checkpoint_after.is_some() || !self.has_dirtied_many() {
+        if self.checkpoint_after.is_some() || !self.is_quarter_dirty() {
             return false;
         }
         self.request_checkpoint();
         true
     }
 
-    // Whether a quarter of the frames is dirty.
-    fn has_dirtied_many(&self) -> bool {
+    fn is_quarter_dirty(&self) -> bool {
         self.order.order().dirty_blocks() as u64 * 4 >= self.frames as u64
     }
 
-    /// How fast the checkpointer copies: fast once half of the frames are dirty, and with no regard for other threads where a group or
-    /// a write waits for room, or all passes have left.
-    pub(crate) fn copy_speed(&self) -> CopySpeed {
-        if self.is_full || self.lacks_room || self.passes == 0 {
-            CopySpeed::Urgent
-        } else if self.order.order().dirty_blocks() as u64 * 2 >= self.frames as u64 {
-            CopySpeed::Fast
+    /// How long a step of copying is, and whether the checkpointer yields after it, which it does if a thread waits for a group, or waited
+    /// for the last one. If the journal is short of room, writes wait, or all passes have left, steps are long and it doesn't yield.
+    pub(crate) fn copy_pace(&self, is_short: bool) -> (StepLength, bool) {
+        let hurries = is_short || self.lacks_room || self.passes == 0 || self.slows_writers();
+        let is_half_dirty = self.order.order().dirty_blocks() as u64 * 2 >= self.frames as u64;
+        let length = if hurries || is_half_dirty {
+            StepLength::Long
         } else {
-            CopySpeed::Gentle
-        }
+            StepLength::Short
+        };
+        (length, !hurries && self.waiters.waited_lately())
     }
 
     /// How many microseconds a client waits that has written this many blocks.

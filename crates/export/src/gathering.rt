@@ -61,6 +61,11 @@ impl Waiters {
         self.unsealed == 1 && self.expected <= 1
     }
 
+    /// Whether a thread waits, or one waited for the last group.
+    pub(crate) fn waited_lately(&self) -> bool {
+        self.sealed > 0 || self.unsealed > 0 || self.expected > 0
+    }
+
     /// Whether fewer wait for the next group than are expected.
     pub(crate) fn expects_more(&self) -> bool {
         self.unsealed < self.expected

@@ -22,23 +22,21 @@ enum Stage {
     Finish,
 }
 
-/// How fast the first area is copied.
+/// How much of the first area a step copies.
 #[derive(Clone, Copy)]
-pub(crate) enum CopySpeed {
-    /// By short steps, so that those who wait for the keeper's lock don't wait long.
-    Gentle,
-    /// By long steps.
-    Fast,
-    /// By long steps, and other threads don't come first.
-    Urgent,
+pub(crate) enum StepLength {
+    /// Little, so that those who wait for the keeper's lock don't wait long.
+    Short,
+    /// More, so that copying takes less time in all.
+    Long,
 }
 
-impl CopySpeed {
+impl StepLength {
     // The most that a step copies in one hold of the keeper's lock: blocks, and ranges of them, each in one read and one write.
     fn limits(self) -> (u32, u32) {
         match self {
-            CopySpeed::Gentle => (64, 4),
-            CopySpeed::Fast | CopySpeed::Urgent => (256, 16),
+            StepLength::Short => (64, 4),
+            StepLength::Long => (256, 16),
         }
     }
 }
@@ -136,6 +134,12 @@ impl<B: ExportName, D: Disk> StorageEngine<B, D> {
         self.used.saturating_mul(2) >= self.area_bytes()
     }
 
+    /// Whether half of the last area is used, and no other one is free.
+    pub(crate) fn is_short(&self) -> bool {
+        self.is_filling()
+            && self.waiting.saturating_add(1) >= self.shared.keeper().geometry().areas()
+    }
+
     /// Whether seven eighths of the last area are used.
     pub(crate) fn is_nearly_full(&self) -> bool {
         self.used.saturating_mul(8) >= self.area_bytes().saturating_mul(7)
@@ -184,10 +188,10 @@ impl<B: ExportName, D: Disk> StorageEngine<B, D> {
     pub(crate) fn copy_on<T: Trust>(
         &mut self,
         board: &Board<B, T>,
-        speed: CopySpeed,
+        length: StepLength,
     ) -> Result<CopyStep, KeeperFault> {
         match self.stage {
-            Stage::Copy => self.copy(speed),
+            Stage::Copy => self.copy(length),
             Stage::Map => {
                 self.shared.write_map()?;
                 self.stage = Stage::Finish;
@@ -205,8 +209,8 @@ impl<B: ExportName, D: Disk> StorageEngine<B, D> {
     }
 
     // Copies the next blocks, as many as one hold takes; the map is next where none is left.
-    fn copy(&mut self, speed: CopySpeed) -> Result<CopyStep, KeeperFault> {
-        let (most, ranges) = speed.limits();
+    fn copy(&mut self, length: StepLength) -> Result<CopyStep, KeeperFault> {
+        let (most, ranges) = length.limits();
         let mut left = most;
         for _ in 0..ranges {
             if left == 0 {
