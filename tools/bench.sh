@@ -284,7 +284,7 @@ measure_sustained() {
     rmdir "$group" 2>/dev/null || true
 }
 
-# The slowest requests.
+# The slowest requests. The disk's syncs vary by the minute, so both servers stand, and take each load in turn.
 measure_tails() {
     tailed='flushed 1
 flushed 4
@@ -296,16 +296,22 @@ write 1
 write 4'
     round=0
     while [ $round -lt "$rounds" ]; do
-        for it in nbdj nbdkit; do
-            serve $it
-            fill $it $blocks
-            sync
-            echo "$tailed" | while read -r kind connections; do
+        serve nbdj
+        first=$server
+        serve nbdkit
+        for it in nbdj nbdkit; do fill $it $blocks; done
+        sync
+        echo "$tailed" | while read -r kind connections; do
+            for it in nbdj nbdkit; do
                 timeout 100 ./client times "nbd+unix:///?socket=$folder/$it.sock" "$kind" "$connections" "$seconds" $blocks >>"$it.$kind.$connections.times"
+                # (until it has copied what its journal holds)
+                sleep 0.5
                 sync
             done
-            stop
         done
+        stop
+        server=$first
+        stop
         round=$((round + 1))
     done
 
