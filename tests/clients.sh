@@ -60,7 +60,7 @@ serves() {
     unix) address="--unix $folder/socket" ;;
     esac
     # (a kill goes to the program itself, by the number in server_pid; the time limit ends it if a check hangs)
-    timeout 150 sh -c 'echo $$ >server_pid; exec "$@"' sh "$NBDJ" serve d.img $address "$@" >heard 2>serve_errors &
+    timeout 900 sh -c 'echo $$ >server_pid; exec "$@"' sh "$NBDJ" serve d.img $address "$@" >heard 2>serve_errors &
     server=$!
     await_listening 20
     case $transport in
