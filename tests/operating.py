@@ -1,8 +1,8 @@
 #!/usr/bin/env python3
 """How `serve` of the built program NBDJ starts, runs and ends, as an operator sees it: what kills leave, eight clients at once, slow, failing
 and hanging devices, `--cache ordered`, limits on what is pending, stops, dead clients, another writer of the image, unreadable sectors,
-checkpoints that yield their processor, the log, more clients than workers, slow handshakes, several listeners, sockets from systemd, a log
-that nobody reads, a long start, and locks.
+checkpoints that yield their processor, memory after a load, the log, more clients than workers, slow handshakes, several listeners, sockets from
+systemd, a log that nobody reads, a long start, and locks.
 
 usage: tests/operating.py [SCENARIO ..]          (SCENARIO: the name of one of the functions below that `main` lists; by default all)
 
@@ -480,7 +480,7 @@ def managed(folder):
     ways = (("terminated", os.kill, signal.SIGTERM), ("interrupted", os.kill, signal.SIGINT), ("hung-up", os.kill, signal.SIGHUP),
             ("group", os.killpg, signal.SIGTERM))
     for name, send, number in ways:
-        settings = {"program": (script,), "env": {**os.environ, "NBDJ": NBDJ, "MALLOC_ARENA_MAX": ""}, "start_new_session": True, "preexec_fn": reset_signals}
+        settings = {"program": (script,), "env": {**os.environ, "NBDJ": NBDJ}, "start_new_session": True, "preexec_fn": reset_signals}
         with Server(folder, name, 4, "--flush-interval", "0", **settings) as server:
             answered = {}
             clients = [server.new_client() for _ in range(3)]
@@ -488,7 +488,6 @@ def managed(folder):
             for thread in threads:
                 thread.start()
             time.sleep(1)
-            check(f"{name}: the arenas of the C library", ["MALLOC_ARENA_MAX=2"], arenas_of_child(server.process.pid))
             send(server.process.pid, number)
             check(f"{name}: the end", (0, ""), wait_for_end(server))
             # (otherwise the clients would not end)
@@ -518,14 +517,6 @@ def managed(folder):
     statuses = {early_signal(script, os.path.join(folder, "killed.img"), settings["env"], millis) for millis in range(0, 40, 2) for _ in range(4)}
     # (before the shell has read the first lines, the signal ends it)
     check("nbdj-server: a signal to the group right after the start", set(), statuses - {0, -signal.SIGTERM})
-
-
-def arenas_of_child(pid):
-    """What the environment of the process's only child says of the C library's arenas."""
-    with open(f"/proc/{pid}/task/{pid}/children", encoding="ascii") as children:
-        [child] = children.read().split()
-    with open(f"/proc/{child}/environ", encoding="utf-8", errors="replace") as settings:
-        return [it for it in settings.read().split("\0") if it.startswith("MALLOC_ARENA_MAX=")]
 
 
 def early_signal(script, image, environment, millis):
@@ -742,6 +733,32 @@ def yielding(folder):
                 copied = [calls.count(b"posix_fadvise") for calls in read_file(log).split(b"sched_yield")]
         check(f"{name}: blocks are copied", True, FRAMES // 4 <= sum(copied))
         check(f"{name}: the most blocks between two yields", True, max(copied) in longest or max(copied))
+
+
+def kept(folder):
+    """Memory that was in use for groups and for the data of WRITEs and READs goes back to the system within seconds after a load."""
+    count, turns, short = 8, 12, 128
+    with Server(folder, "kept", count) as server:
+        def load(number):
+            begin = number * 2 * MIB
+            sent = [request(WRITE, 1, begin, MIB) + bytes([number]) * MIB, request(READ, 2, begin, MIB), request(READ, 3, begin + MIB, MIB)]
+            sent += [request(WRITE, 4, begin + MIB + at * BLOCK, BLOCK) + block_of(at) for at in range(short)]
+            sent = b"".join([*sent, request(FLUSH, 5)])
+            with server.new_client() as client:
+                for _ in range(turns):
+                    threading.Thread(target=client.sendall, args=(sent,)).start()
+                    check(f"kept: answers to client {number}", reply(5), take(client, (4 + short) * 16 + 2 * MIB)[-16:])
+        clients = [threading.Thread(target=load, args=(number,)) for number in range(count)]
+        for client in clients:
+            client.start()
+        for client in clients:
+            client.join()
+        server.watch()
+        # Beside the frames: 3 MiB for the program, and a few of what the C library keeps.
+        bound, end = FRAMES * BLOCK + 9 * MIB, time.monotonic() + 30
+        while server.resident() > bound and time.monotonic() < end:
+            time.sleep(0.5)
+        check("kept: memory after a load", True, server.resident() <= bound or (server.most, server.resident()))
 
 
 def told(folder):
@@ -1154,7 +1171,7 @@ def shut_out(folder):
 
 def main():
     scenarios = [kills, intervals, sectors, in_turn, eight, beside, unflushed, bounded, shown, asked_to_end, managed, idle, failing, second_writer,
-                 failing_amid_eight, gathered, unreadable, yielding, told, refused_when_full, silent_handshakes, many_listeners, activated, crowded,
+                 failing_amid_eight, gathered, unreadable, yielding, kept, told, refused_when_full, silent_handshakes, many_listeners, activated, crowded,
                  unheard, copied, long_opening, waiting, late, shut_out]
     unknown = set(sys.argv[1:]) - {it.__name__ for it in scenarios}
     if unknown:

@@ -240,6 +240,29 @@ def buffers(folder):
             check(f"a WRITE and a FLUSH, turn {turn}", reply(3) + reply(4), checks.take(other, 32))
 
 
+def data(folder):
+    """WRITEs whose lengths rise and fall, on two connections: the data of one come to lie where those of an earlier one were."""
+    blocks, lengths = 512, (BLOCK, 1, MIB, BLOCK, 512, 2 * BLOCK, BLOCK + 1, 3 * BLOCK, BLOCK, 65536, MIB // 2, BLOCK - 1, MIB, 2, BLOCK, 65536)
+    image, pattern = bytearray(blocks * BLOCK), bytes(range(251)) * (MIB // 251 + 2)
+    with serve_new(folder, "data", blocks) as path, connect(path) as one, connect(path) as other:
+        for client in (one, other):
+            shake(client)
+        # (first at whole blocks, then anywhere)
+        for turn, (step, length) in enumerate((step, length) for step in (BLOCK, 1) for length in lengths):
+            for number, client in enumerate((one, other)):
+                sent = []
+                for cookie in range(2):
+                    place = (turn * 5003 + number * 700001 + cookie * BLOCK) % (len(image) - length + 1) // step * step
+                    first = (turn * 31 + number * 11 + cookie * 5) % 251
+                    image[place:place + length] = pattern[first:first + length]
+                    sent.append(request(WRITE, cookie, place, length) + pattern[first:first + length])
+                client.sendall(b"".join([*sent, request(FLUSH, 2)]))
+                check(f"data of {length} bytes, turn {turn}", reply(0) + reply(1) + reply(2), checks.take(client, 48))
+            one.sendall(request(READ, 3, 0, MIB) + request(READ, 4, MIB, MIB))
+            wanted = reply(3) + image[:MIB] + reply(4) + image[MIB:]
+            check(f"the image, turn {turn}", True, checks.take(one, len(wanted)) == wanted)
+
+
 def ordered(folder):
     """In ordered a FLUSH and FUA are answered Ok, though they make nothing durable. Invalid requests are refused as in other modes."""
     with serve_new(folder, "ordered", 16, "--cache", "ordered", "--flush-interval", "0") as path:
@@ -248,4 +271,4 @@ def ordered(folder):
 
 
 if __name__ == "__main__":
-    sys.exit(checks.run_scenarios((requests, nothing, beginnings, by_turns, flags, lengths, buffers, ordered)))
+    sys.exit(checks.run_scenarios((requests, nothing, beginnings, by_turns, flags, lengths, buffers, data, ordered)))

@@ -11,9 +11,10 @@
 # 5. Random WRITEs over 2 GiB for SUSTAINED_SECONDS (120), over images that were written by 1 MiB and by 4 KiB: nbdj with two sizes of frames and
 #    areas, and nbdkit's file plugin, each limited to 256 MiB of memory with its page cache. It needs root and the memory controller of cgroups.
 # 6. How long single requests take: nbdj and nbdkit's file plugin.
+# 7. How much memory each server has after its start, after a load, and a minute later.
 #
 # TABLES (servers syncs filling) says which are made: servers the first two, syncs the third, filling the fourth, sustained the fifth, tails the
-# sixth.
+# sixth, memory the seventh.
 # It needs cc and Debian's libnbd-dev, nbdkit and qemu-utils. Each server is measured ROUNDS (1) times, and the medians are printed. A measurement
 # takes BENCH_SECONDS (4); then each client waits for answers that are due. The images are in BENCH_FOLDER, by default TMPDIR.
 set -eu
@@ -326,12 +327,39 @@ write 4'
     done
 }
 
+# resident NAME: adds how much memory its server has, in MiB, to NAME.memory
+resident() { awk '/^VmRSS:/ { printf "%.1f\n", $2 / 1024 }' "/proc/$(pgrep -P "$server")/status" >>"$1.memory"; }
+
+# Memory. Each server has all the loads, one after another.
+measure_memory() {
+    life=400
+    for it in $servers; do
+        serve $it
+        resident $it
+        for row in 'sequential 1' 'sequential 8' 'write 16' 'read-long 8' 'flushed 8' 'mixed 8' 'write-512 8'; do measure $it $row $blocks >/dev/null; done
+        resident $it
+        sleep 60
+        resident $it
+        stop
+    done
+    life=120
+
+    echo
+    echo "| Resident memory, MiB, of which nbdj has $((frames / 256)) as frames | nbdj | nbdkit file | nbdkit cache, file | qemu-nbd |"
+    echo '|---|---|---|---|---|'
+    line=1
+    for what in 'after the start' 'after loads by up to 16 connections' 'a minute later'; do
+        echo "| $what | $(sed -n ${line}p nbdj.memory) | $(sed -n ${line}p nbdkit.memory) | $(sed -n ${line}p cache.memory) | $(sed -n ${line}p qemu.memory) |"
+        line=$((line + 1))
+    done
+}
+
 echo "$(uname -sr), $(nproc) processors, load $(cut -d ' ' -f 1-3 /proc/loadavg), images on $(df -T "$folder" | awk 'NR == 2 { print $2 }');"
 echo "$("$NBDJ" --version), $(nbdkit --version), $(qemu-nbd --version | head -n 1), libnbd $(nbdinfo --version | sed -n 's/^nbdinfo //p');"
 echo "$rounds rounds of $seconds s, an image of $((blocks / 256)) MiB."
 for table in ${TABLES:-servers syncs filling}; do
     case $table in
-    servers | syncs | filling | sustained | tails) measure_$table ;;
+    servers | syncs | filling | sustained | tails | memory) measure_$table ;;
     *) echo "bench: there is no table $table" >&2; exit 2 ;;
     esac
 done

@@ -13,12 +13,13 @@ ghost use Rattle.regions.specs.Layout.{area_size};
 use crate::fault::KeeperFault;
 use alloc_map::AllocMap;
 use device_image::CopyPlan;
-use disk_model::Disk;
+use disk_model::{Disk, free_buffer};
 use header_slots::Header;
-use image_model::{Geometry, Side};
+use image_model::{Command, Geometry, Side};
 use journal::{Area, Group};
 use std::alloc::Global;
 use std::marker::Model;
+use std::mem;
 
 /// The keeper of an open device.
 pub struct Keeper<D: Disk> {
@@ -36,6 +37,8 @@ pub struct Keeper<D: Disk> {
     // The area that the next group goes to.
     pub(crate) area: Area,
     pub(crate) failed: bool,
+    // The bytes of the blocks that were copied last.
+    pub(crate) copied: Vec<u8>,
 }
 
 // Written out, it is proved once, and not again in each function that lets a keeper go.
@@ -52,6 +55,7 @@ impl<D: Disk + Drop> Drop for Keeper<D> {
             waiting: _,
             area: _,
             failed: _,
+            copied: _,
         } = self;
     }
 }
@@ -107,6 +111,7 @@ impl<D: Disk> Keeper<D> {
             waiting: _,
             area: _,
             failed: _,
+            copied: _,
         } = self;
         disk
     }
@@ -137,6 +142,21 @@ impl<D: Disk> Keeper<D> {
         ensures { result ≡ self.now.base }
     {
         self.header.base
+    }
+
+    /// Frees the memory that is kept for the next group and for the next blocks to copy.
+    pub fn free_memory(&mut self)
+        ensures { self.new ≡ self.old }
+    {
+        self.area.free_memory();
+        free_buffer(mem::replace(&mut self.copied, Vec::new(self.alloc)));
+    }
+
+    /// The commands of the last group that was stored, for those who use their memory again.
+    pub fn take_stored(&mut self) -> Vec<Command>
+        ensures { self.new ≡ self.old }
+    {
+        self.area.take_stored()
     }
 }
 

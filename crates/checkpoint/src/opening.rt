@@ -79,6 +79,7 @@ pub fn load<D: Disk>(alloc: Global, mut disk: D) -> Result<Keeper<D>, (KeeperFau
                 waiting: plans,
                 area,
                 failed: false,
+                copied: Vec::new(alloc),
             })
         }
         Err(fault) => Err((fault, disk)),

@@ -1,4 +1,4 @@
-ghost use Rattle.std.specs.Prelude.{◌≡◌, ◌≢◌, ◌⊎◌, ℕ, suc, ◌+◌, ◌-◌, ◌<◌, ◌≤◌, ◌↔◌, List, [], ◌∷◌, ◌++◌, length, false, IfErr, IfNone, IfOk, IfSome, IsTrue, Err, OnOk};
+ghost use Rattle.std.specs.Prelude.{◌≡◌, ◌≢◌, ◌⊎◌, ℕ, suc, ◌+◌, ◌-◌, ◌<◌, ◌≤◌, ◌↔◌, List, [], ◌∷◌, ◌++◌, length, false, IfErr, IfNone, IfOk, IfSome, IsTrue, Err, OnOk, vec_len};
 ghost use Rattle.checkpoint.specs.Headers.{HasHeader, HasHeaderOrNext};
 ghost use Rattle.checkpoint.specs.Keeper.{faults_by, refused_by};
 ghost use Rattle.checkpoint.specs.Steps.{IsCopyTime, IsFinishTime, IsMapTime, IsRotateTime, IsStepFault, copied_by, finished_by, first_turned, left_in, mapped_by, phase_with, rotated_by};
@@ -28,6 +28,17 @@ use header_slots::{Header, HeaderChange, change_header};
 use image_model::BLOCK_BYTES;
 use journal::Area;
 use regions::Regions;
+use std::alloc::AllocError;
+use std::mem;
+
+// The buffer with this many bytes, whatever they are.
+fn with_len(buffer: Vec<u8>, len: usize) -> Result<Vec<u8>, AllocError>
+    ensures len { IfOk result (λ buffer. vec_len buffer ≡ len) }
+{
+    let mut buffer = buffer;
+    buffer.resize(len, 0)?;
+    Ok(buffer)
+}
 
 impl<D: Disk> Keeper<D> {
     /// Copies the next blocks, at most `most`, that follow one another in the image and in the area, in one read and one
@@ -70,17 +81,20 @@ impl<D: Disk> Keeper<D> {
         let Some(put) = plan.next_copy(most) else {
             return Err(KeeperFault::NotNow);
         };
-        let mut buffer = vec![in self.alloc; 0; put.blocks as usize * BLOCK_BYTES as usize]?;
+        let copied = mem::replace(&mut self.copied, Vec::new(self.alloc));
+        let mut buffer = with_len(copied, put.blocks as usize * BLOCK_BYTES as usize)?;
         let from = plan.start() + put.place as u64;
         let geometry = self.header.geometry;
         let regions = Regions::from_geometry(&geometry);
-        match copy_over(
+        let done = copy_over(
             &mut self.disk,
             &regions,
             from,
             put.first as u64,
             &mut buffer,
-        ) {
+        );
+        self.copied = buffer;
+        match done {
             Ok(()) => {
                 plan.advance(put);
                 Ok(put.blocks)

@@ -24,6 +24,7 @@
 //!   model is a premise, which no proof here supports.
 #![tactic(auto)]
 
+mod buffer;
 mod disk;
 mod fault_plan;
 mod faults;
@@ -32,6 +33,7 @@ mod history;
 mod sim;
 mod synced;
 
+pub use buffer::free_buffer;
 pub use disk::{DeviceFault, Disk};
 pub use fault_plan::CallKind;
 pub use file::FileDisk;

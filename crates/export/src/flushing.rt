@@ -14,6 +14,9 @@ use std::rt::Clock;
 use std::sync::Wait;
 use std::time::{Duration, Instant};
 
+/// After how many seconds the memory that is kept for further requests is freed.
+pub(crate) const KEPT_SECONDS: u64 = 10;
+
 // What came of a step of the flusher.
 enum FlusherStep<B: ExportName> {
     // A group was sealed, and is stored next.
@@ -39,6 +42,8 @@ impl<B: ExportName, D: Disk, H: ReadUnlocked, T: Trust> Export<B, D, H, T> {
     ///
     /// A thread that waits alone stores the next group itself, if nothing else calls the flusher. If storing a group takes long and
     /// more requests are likely to wait for the same one, it is sealed a little later.
+    ///
+    /// Every ten seconds it frees the memory that is kept for further requests, which may be in use again then.
     pub fn flusher<R: Wait + Clock, G: SyncPoints>(&self, rt: &R, points: &mut G) {
         self.store_groups(rt, points);
         self.queue.lock(rt).end();
@@ -50,7 +55,9 @@ impl<B: ExportName, D: Disk, H: ReadUnlocked, T: Trust> Export<B, D, H, T> {
         let mut pace = Pace::new();
         let mut retries = Retries::new();
         let mut in_hand = None;
+        let mut freed = Instant::now(rt).ok();
         for _ in rt.forever() {
+            self.free_kept(rt, &mut freed);
             let step = match in_hand {
                 Some(group) => self.store_next(rt, points, &mut pace, group),
                 None => self.next_group(rt, &mut pace),
@@ -61,6 +68,22 @@ impl<B: ExportName, D: Disk, H: ReadUnlocked, T: Trust> Export<B, D, H, T> {
             in_hand = next;
         }
         unreachable!()
+    }
+
+    // Frees the memory that is kept for further requests, if the last time was long ago.
+    fn free_kept<R: Wait + Clock>(&self, rt: &R, freed: &mut Option<Instant>) {
+        match time_since(rt, *freed) {
+            Some(past) if past >= Duration::from_secs(KEPT_SECONDS) => {
+                *freed = Instant::now(rt).ok();
+                let kept = self.buffers.lock(rt).take_all();
+                kept.free();
+                let turn = self.signals.turn.lock(rt);
+                let mut engine = self.engine.lock(rt);
+                drop(turn);
+                engine.free_memory();
+            }
+            _ => {}
+        }
     }
 
     // The group that is in hand after a step; None where there will be no other step.
@@ -200,6 +223,9 @@ impl<B: ExportName, D: Disk, H: ReadUnlocked, T: Trust> Export<B, D, H, T> {
             Ok(stored) => {
                 tell_stored(points, stored, time_since(rt, begin));
                 self.publish(rt, &mut engine);
+                let commands = engine.take_stored();
+                drop(engine);
+                self.buffers.lock(rt).put_commands(commands);
                 Ok(())
             }
             Err(Unstored::NoMemory(group)) => Err(group),

@@ -4,6 +4,7 @@ ghost use Rattle.std.specs.Prelude.{◌≡◌};
 use crate::name::ExportName;
 use checkpoint::KeeperFault;
 use disk_model::Disk;
+use image_model::Command;
 use journal::Group;
 use marks::{Board, Trust};
 use shared_store::{SealedGroup, SharedKeeper, Unstored};
@@ -159,6 +160,16 @@ impl<B: ExportName, D: Disk> StorageEngine<B, D> {
         self.shared.append(board, sealed)?;
         self.used = self.used.saturating_add(stored.bytes);
         Ok(stored)
+    }
+
+    /// Frees memory that is kept for the next steps.
+    pub(crate) fn free_memory(&mut self) {
+        self.shared.free_memory();
+    }
+
+    /// The commands of the last group that was stored.
+    pub(crate) fn take_stored(&mut self) -> Vec<Command> {
+        self.shared.take_stored()
     }
 
     /// How much of the journal is used.

@@ -8,6 +8,7 @@ ghost use Rattle.marks.specs.Known.{known};
 use crate::client_pass::ClientPass;
 use crate::commit_queue::CommitQueue;
 use crate::export::Export;
+use crate::flushing::KEPT_SECONDS;
 use crate::name::ExportName;
 use crate::retired::RetiredPass;
 use crate::second_handle::ReadUnlocked;
@@ -127,12 +128,13 @@ impl<B: ExportName, D: Disk, H: ReadUnlocked, T: Trust> Export<B, D, H, T> {
                 }
             },
         };
+        let most = Duration::from_secs(KEPT_SECONDS);
         match left {
             Some(left) => {
-                let _woken = self.signals.work.wait_timeout(rt, queue, left);
+                let _woken = self.signals.work.wait_timeout(rt, queue, left.min(most));
             }
             None => {
-                let _woken = self.signals.work.wait(rt, queue);
+                let _woken = self.signals.work.wait_timeout(rt, queue, most);
             }
         }
     }

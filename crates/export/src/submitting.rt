@@ -1,4 +1,4 @@
-ghost use Rattle.std.specs.Prelude.{◌≡◌, ◌≢◌, ◌⊎◌, ◌≤◌, ◌<◌, ◌-◌, ◌*◌, ◌++◌, ◌∷◌, [], max, IfNone, IfSome, OnOk, length, slice_range, vec_len};
+ghost use Rattle.std.specs.Prelude.{◌≡◌, ◌≢◌, ◌⊎◌, ◌≤◌, ◌<◌, ◌-◌, ◌*◌, ◌++◌, ◌∷◌, [], max, IfNone, IfSome, OnOk, length, slice_range, vec_len, vec_capacity};
 ghost use mathlib.Core.List.{IsPrefix};
 ghost use Rattle.export.specs.Noted.{base_of};
 ghost use Rattle.export.specs.Submits.{IsCovered, IsJudged, IsSubmitted};
@@ -154,6 +154,13 @@ impl<B: ExportName, D: Disk, H: ReadUnlocked, T: Trust> Export<B, D, H, T> {
             Answer::Bytes(read) => self.keep_buffer(rt, read.into_bytes()),
             _answer => None,
         }
+    }
+
+    /// An empty buffer for this many bytes of a WRITE's data, if one is kept.
+    pub fn data_buffer<R: Wait>(&self, rt: &R, room: usize) -> Option<Vec<u8>>
+        ensures { IfSome result (λ buffer. (buffer.items ≡ []) × (room ≤ vec_capacity buffer)) }
+    {
+        self.buffers.lock(rt).take_data(room)
     }
 
     // Keeps a long buffer for another READ, and gives back a short one.

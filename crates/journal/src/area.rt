@@ -13,14 +13,12 @@ ghost use Rattle.journal_format.specs.Spelling.{StoredGroup, stored_of};
 ghost use Rattle.journal_format.specs.Touches.{AreWithin};
 
 use crate::group::Group;
-use disk_model::{DeviceFault, Disk, write_synced};
-use image_model::{CLOSED, OPEN};
+use disk_model::{DeviceFault, Disk, free_buffer, write_synced};
+use image_model::{CLOSED, Command, OPEN};
 use journal_format::{GROUP_HEAD_BYTES, JournalFault, Place, TouchedRange};
 use std::alloc::Global;
 use std::marker::Model;
-
-// The most bytes of memory that are kept for the next group.
-const MOST_KEPT_BYTES: usize = 1_048_576;
+use std::mem;
 
 /// A part of a device that holds a list of groups.
 ///
@@ -34,6 +32,8 @@ pub struct Area {
     gate: u32,
     touched: Vec<TouchedRange>,
     buffer: Vec<u8>,
+    // The commands of the last group that was stored.
+    stored: Vec<Command>,
 }
 
 // Written by hand, it is proved once, and not in each function that drops an area.
@@ -46,8 +46,10 @@ impl Drop for Area {
             next: _,
             gate: _,
             touched: _,
-            buffer: _,
+            buffer,
+            stored: _,
         } = self;
+        free_buffer(buffer);
     }
 }
 
@@ -87,6 +89,7 @@ impl Area {
             gate: 0,
             touched: Vec::new(alloc),
             buffer: Vec::new(alloc),
+            stored: Vec::new(alloc),
         }
     }
 
@@ -109,6 +112,22 @@ impl Area {
         ensures { result ≡ self.now.next }
     {
         self.next
+    }
+
+    /// The commands of the last group that was stored, for those who use their memory again.
+    pub fn take_stored(&mut self) -> Vec<Command>
+        ensures { self.new ≡ self.old }
+    {
+        let alloc = *self.stored.allocator();
+        mem::replace(&mut self.stored, Vec::new(alloc))
+    }
+
+    /// Frees the memory that is kept for the bytes of a group.
+    pub fn free_memory(&mut self)
+        ensures { self.new ≡ self.old }
+    {
+        let alloc = *self.stored.allocator();
+        free_buffer(mem::replace(&mut self.buffer, Vec::new(alloc)));
     }
 
     /// Whether the list is empty.
@@ -184,12 +203,12 @@ impl Area {
     {
         let held = self.touched.len();
         let stored = self.store(disk, &group);
-        shrink(&mut self.buffer);
         match stored {
             Ok(()) => {
                 self.gate += GROUP_HEAD_BYTES + group.body_bytes();
                 self.next = group.number_after();
-                let _parts = group.into_parts();
+                let (_first, commands) = group.into_parts();
+                self.stored = commands;
                 Ok(())
             }
             Err(fault) => {
@@ -299,16 +318,6 @@ impl Area {
             return Err(JournalFault::OutOfOrder);
         }
         Ok(())
-    }
-}
-
-// Frees the buffer's memory if it is more than is kept for the next group.
-fn shrink(buffer: &mut Vec<u8>)
-    ensures { vec_capacity buffer.new ≤ 1048576 }
-{
-    if buffer.capacity() > MOST_KEPT_BYTES {
-        buffer.clear();
-        buffer.shrink_to(0);
     }
 }
 

@@ -135,7 +135,7 @@ impl Group {
         ensures spelled { OnOk result (buffer.new.items ≡ group_bytes (stored_of self.now) ++ 0 ∷ []) }
     {
         buffer.clear();
-        buffer.reserve(self.body as usize + 17)?;
+        buffer.reserve_exact(self.body as usize + 17)?;
         self.spell_commands(buffer)?;
         buffer.push(CLOSED)?;
         Ok(())

@@ -101,6 +101,7 @@ impl Place {
         while let Some(behind) = self.group_at(disk, &mut window, end, touched)? {
             end = behind;
         }
+        window.free();
         Ok(end)
     }
 

@@ -3,7 +3,7 @@ ghost use Rattle.disk_model.specs.Faults.{faults_after};
 ghost use Rattle.journal_format.specs.Reading.{IsOnlyRead};
 ghost use Rattle.journal_format.specs.inner.Scanning.{IsReadAs};
 
-use disk_model::{DeviceFault, Disk};
+use disk_model::{DeviceFault, Disk, free_buffer};
 use std::alloc::{AllocError, Global};
 use std::marker::Model;
 
@@ -40,6 +40,15 @@ impl Window {
             from: 0,
             held: 0,
         })
+    }
+
+    pub fn free(self) {
+        let Window {
+            buffer,
+            from: _,
+            held: _,
+        } = self;
+        free_buffer(buffer);
     }
 
     // The bytes of a place in the area, which are in memory.

@@ -19,5 +19,5 @@ pub use head::{RequestHead, decode_request, encode_request, encode_simple};
 pub use laws::{any_pieces, one_head, one_reading, one_reply, one_request, reads_back};
 pub use message::{Answer, DATA, HOLE, ReadBytes, Reply, Request, Run, SessionFlags, States};
 pub use reply::{encode_before_data, encode_chunks, encode_reply, encode_simple_reply};
-pub use stream::{MAX_PAYLOAD, MAX_THROWN_AWAY, StreamReader};
+pub use stream::{DataBuffers, MAX_PAYLOAD, MAX_THROWN_AWAY, StreamReader};
 pub use transmission::{TransmissionFlags, transmission_flags};

@@ -1,4 +1,4 @@
-ghost use Rattle.std.specs.Prelude.{◌≡◌, ◌+◌, ◌-◌, ◌<◌, ◌≤◌, ℕ, List, [], ◌++◌, Some, length, take, IfOk, IfErr, IsOkAnd, OnErr, vec_len, vec_capacity};
+ghost use Rattle.std.specs.Prelude.{◌≡◌, ◌+◌, ◌-◌, ◌<◌, ◌≤◌, ℕ, List, [], ◌++◌, Some, length, take, IfOk, IfErr, IfSome, IsOkAnd, OnErr, vec_len, vec_capacity};
 ghost use Rattle.std.specs.Io.KnownBytes.{Keeps};
 ghost use Rattle.nbd_wire.specs.Head.{head_bytes};
 ghost use Rattle.nbd_wire.specs.Request.{handed_len};
@@ -23,6 +23,20 @@ const HEAD_LEN: usize = 28;
 
 // The most bytes that are read at once into the room of data: 64 KiB. They are made zero first, and lie in a cache then.
 const MOST_LENT: usize = 65_536;
+
+/// Where a reader gets memory for the data of WRITEs.
+pub trait DataBuffers {
+    /// An empty buffer with room for this many bytes; None if there is none.
+    fn take(&self, room: usize) -> Option<Vec<u8>>
+        ensures { IfSome result (λ buffer. (buffer.items ≡ []) × (room ≤ vec_capacity buffer)) };
+}
+
+/// There are none: the reader takes memory of its own.
+impl DataBuffers for () {
+    fn take(&self, _room: usize) -> Option<Vec<u8>> {
+        None
+    }
+}
 
 /// Takes requests from a stream of bytes, in whatever pieces it comes. It holds no more than the request at
 /// hand, at most 28 bytes of a head and [`MAX_PAYLOAD`] of data.
@@ -75,7 +89,11 @@ impl StreamReader {
     ///
     /// Refusals 0 (no memory), 3 (bad magic) and 4 (too long: a WRITE longer than [`MAX_THROWN_AWAY`]). Each
     /// comes after the requests before it, and all later calls give it too: what memory ran out for is lost.
-    pub fn feed(&mut self, piece: &[u8]) -> Result<Vec<Request>, WireFault>
+    pub fn feed<B: DataBuffers>(
+        &mut self,
+        piece: &[u8],
+        buffers: &B,
+    ) -> Result<Vec<Request>, WireFault>
         // However the stream was cut, these are its next requests, up to its first fault.
         ensures stream { Feeds self.old piece.now (answered result) self.new }
 
@@ -94,7 +112,7 @@ impl StreamReader {
         let Some(state) = self.state.take() else {
             return Err(WireFault::NoMemory);
         };
-        let (state, requests) = read_all(self.alloc, state, piece);
+        let (state, requests) = read_all(self.alloc, state, piece, buffers);
         self.state = state;
         answer(&self.state, requests)
     }
@@ -157,7 +175,12 @@ fn answer(state: &Option<State>, requests: Vec<Request>) -> Result<Vec<Request>,
 }
 
 // Reads all of the piece, but where memory runs out. After a fault the requests are those before it.
-fn read_all(alloc: Global, state: State, piece: &[u8]) -> (Option<State>, Vec<Request>)
+fn read_all<B: DataBuffers>(
+    alloc: Global,
+    state: State,
+    piece: &[u8],
+    buffers: &B,
+) -> (Option<State>, Vec<Request>)
     requires { IsState state }
     ensures sound { IsReader result.0 }
     ensures reads { AdvancesTo (kept state) piece.now result.1.items (reader_of result.0) }
@@ -174,7 +197,7 @@ fn read_all(alloc: Global, state: State, piece: &[u8]) -> (Option<State>, Vec<Re
     let mut rest = piece;
     while !rest.is_empty() {
         let (front, behind) = rest.split_at(rest.len().min(wanted(&state)));
-        let Ok((next, request)) = advance(alloc, state, front) else {
+        let Ok((next, request)) = advance(alloc, state, front, buffers) else {
             return (None, requests);
         };
         state = next;
@@ -203,7 +226,12 @@ fn wanted(state: &State) -> usize
 }
 
 // Takes the next bytes, and answers the request that is whole now.
-fn advance(alloc: Global, state: State, more: &[u8]) -> Result<(State, Option<Request>), AllocError>
+fn advance<B: DataBuffers>(
+    alloc: Global,
+    state: State,
+    more: &[u8],
+    buffers: &B,
+) -> Result<(State, Option<Request>), AllocError>
     requires sound { IsState state }
     requires wanted { length more.now ≤ wanted_of state }
     ensures sound { IfOk result (λ step. IsState step.0) }
@@ -211,18 +239,19 @@ fn advance(alloc: Global, state: State, more: &[u8]) -> Result<(State, Option<Re
     ensures part { length more.now < missing_len (reading (kept state)) → IsOkAnd result IsQuiet }
 {
     match state {
-        State::Head { bytes, count } => take_head(alloc, bytes, count, more),
+        State::Head { bytes, count } => take_head(alloc, bytes, count, more, buffers),
         State::Data { head, bytes } => Ok(take_data(head, bytes, more)),
         State::Discard { head, missing } => { Ok(discard(alloc, head, missing, more.len() as u32)) }
         State::Failed(fault) => Ok((State::Failed(fault), None)),
     }
 }
 
-fn take_head(
+fn take_head<B: DataBuffers>(
     alloc: Global,
     mut bytes: [u8; 28],
     count: usize,
     more: &[u8],
+    buffers: &B,
 ) -> Result<(State, Option<Request>), AllocError>
     requires wanted { count + length more.now ≤ 28 }
     ensures sound { IfOk result (λ step. IsState step.0) }
@@ -235,11 +264,15 @@ fn take_head(
         let count = end;
         return Ok((State::Head { bytes, count }, None));
     }
-    begin(alloc, &bytes)
+    begin(alloc, &bytes, buffers)
 }
 
 // Decides by a head what follows it; a request with no data is whole.
-fn begin(alloc: Global, bytes: &[u8; 28]) -> Result<(State, Option<Request>), AllocError>
+fn begin<B: DataBuffers>(
+    alloc: Global,
+    bytes: &[u8; 28],
+    buffers: &B,
+) -> Result<(State, Option<Request>), AllocError>
     ensures sound { IfOk result (λ step. IsState step.0) }
     ensures reads { IfOk result (λ step. Reads bytes.now (found step.1) (kept step.0)) }
 {
@@ -251,7 +284,7 @@ fn begin(alloc: Global, bytes: &[u8; 28]) -> Result<(State, Option<Request>), Al
     }
     if head.length <= MAX_PAYLOAD {
         // The room for all of the data.
-        let bytes = Vec::with_capacity(alloc, head.length as usize)?;
+        let bytes = room_for(alloc, head.length as usize, buffers)?;
         return Ok((State::Data { head, bytes }, None));
     }
     if head.length <= MAX_THROWN_AWAY {
@@ -259,6 +292,16 @@ fn begin(alloc: Global, bytes: &[u8; 28]) -> Result<(State, Option<Request>), Al
         return Ok((State::Discard { head, missing }, None));
     }
     Ok((State::Failed(RequestFault::TooLong), None))
+}
+
+// An empty buffer with room for this many bytes.
+fn room_for<B: DataBuffers>(alloc: Global, room: usize, buffers: &B) -> Result<Vec<u8>, AllocError>
+    ensures { IfOk result (λ bytes. (bytes.items ≡ []) × (room ≤ vec_capacity bytes)) }
+{
+    match buffers.take(room) {
+        Some(buffer) => Ok(buffer),
+        None => Vec::with_capacity(alloc, room),
+    }
 }
 
 fn without_data(alloc: Global, head: RequestHead) -> Request

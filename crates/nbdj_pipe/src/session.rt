@@ -245,7 +245,7 @@ impl<B: BoardName, D: Disk> Session<B, D> {
         ensures is_open { IsFed reader.old piece.now reader.new result }
     {
         leads_law::<D>();
-        let mut requests = reader.feed(piece)?;
+        let mut requests = reader.feed(piece, &())?;
         requests.reverse();
         while let Some(request) = requests.pop() {
             match self.serve(request)? {

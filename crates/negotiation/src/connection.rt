@@ -35,7 +35,7 @@ pub fn serve_session<P, S: Serve<P>, R: Read, W: Write>(
     let mut session = Session::new(alloc, offer);
     let mut piece = empty_piece(alloc)?;
     let mut due = Vec::new(alloc);
-    let requests = negotiate(input, output, &mut session, &mut piece, &mut due)?;
+    let requests = negotiate(input, output, &mut session, &mut piece, &mut due, export)?;
     export.handshake_is_over();
     transmit(
         input,
@@ -74,7 +74,7 @@ pub fn transmit<P, S: Serve<P>, R: Read, W: Write>(
         if session.ended() {
             return Ok(());
         }
-        requests = hear(input, output, session, piece, due)?;
+        requests = hear(input, output, session, piece, due, export)?;
     }
     Err(End::IoFault)
 }

@@ -12,19 +12,20 @@ ghost use Rattle.negotiation.specs.Streams.{IsEarly};
 use crate::end::End;
 use crate::serve::write_due;
 use crate::session::Session;
-use nbd_wire::{Request, StreamFault, read_some};
+use nbd_wire::{DataBuffers, Request, StreamFault, read_some};
 use std::io::{ErrorKind, Read, Write};
 
 /// Says the greeting and answers options until the handshake of a session is over, and hands out the requests that came
 /// with its last piece.
 ///
 /// Refusals 0 (no memory), 19 (peer closed), 20 (protocol end) and 21 (stream fault).
-pub fn negotiate<R: Read, W: Write>(
+pub fn negotiate<R: Read, W: Write, B: DataBuffers>(
     input: &mut R,
     output: &mut W,
     session: &mut Session,
     piece: &mut Vec<u8>,
     due: &mut Vec<u8>,
+    buffers: &B,
 ) -> Result<Vec<Request>, End>
     requires none_due { due.old.items ≡ [] }
     requires piece { vec_len piece.old ≡ piece_bytes }
@@ -37,7 +38,7 @@ pub fn negotiate<R: Read, W: Write>(
     ensures no_disc { IfOk result (λ requests. HasNoDisc requests.items) }
     ensures said { IsSaid session.new.standing }
 {
-    let mut requests = take(session, &[], output, due)?;
+    let mut requests = take(session, &[], output, due, buffers)?;
     for _ in 0..u64::MAX {
         if !requests.is_empty() {
             return Ok(requests);
@@ -45,7 +46,7 @@ pub fn negotiate<R: Read, W: Write>(
         if session.is_handshake_over() {
             return Ok(requests);
         }
-        requests = hear(input, output, session, piece, due)?;
+        requests = hear(input, output, session, piece, due, buffers)?;
     }
     Err(End::IoFault)
 }
@@ -53,12 +54,13 @@ pub fn negotiate<R: Read, W: Write>(
 // Reads what there is, writes what is due for it, and hands out the requests in it. After an end it reads nothing, and an
 // end after earlier requests is told before more input is waited for. With no request it has read something, or the
 // session is over.
-pub fn hear<R: Read, W: Write>(
+pub fn hear<R: Read, W: Write, B: DataBuffers>(
     input: &mut R,
     output: &mut W,
     session: &mut Session,
     piece: &mut Vec<u8>,
     due: &mut Vec<u8>,
+    buffers: &B,
 ) -> Result<Vec<Request>, End>
     requires said { IsSaid session.old.standing }
     requires going { session.old.standing ≡ ended → ⊥ }
@@ -75,7 +77,7 @@ pub fn hear<R: Read, W: Write>(
     ensures no_disc { IfOk result (λ requests. HasNoDisc requests.items) }
     ensures said { IsSaid session.new.standing }
 {
-    let requests = take(session, &[], output, due)?;
+    let requests = take(session, &[], output, due, buffers)?;
     if !requests.is_empty() {
         return Ok(requests);
     }
@@ -90,7 +92,7 @@ pub fn hear<R: Read, W: Write>(
     if count == 0 {
         return Err(End::PeerClosed);
     }
-    take(session, &piece[..count], output, due)
+    take(session, &piece[..count], output, due, buffers)
 }
 
 // Reads into the room of the data at hand, where so much is missing that a piece wouldn't end them.
@@ -126,11 +128,12 @@ fn fill_some<R: Read>(input: &mut R, session: &mut Session) -> Result<usize, Str
 }
 
 // Feeds a piece to a session, and writes what is due for it.
-fn take<W: Write>(
+fn take<W: Write, B: DataBuffers>(
     session: &mut Session,
     piece: &[u8],
     output: &mut W,
     due: &mut Vec<u8>,
+    buffers: &B,
 ) -> Result<Vec<Request>, End>
     requires { due.old.items ≡ [] }
     ensures hearing { Hearing session.old (λ bytes. bytes ≡ piece.now) (W.contents output.old) (W.contents output.new) result session.new }
@@ -142,7 +145,7 @@ fn take<W: Write>(
     ensures no_disc { IfOk result (λ requests. HasNoDisc requests.items) }
     ensures said { IsSaid session.new.standing }
 {
-    let fed = session.feed(piece, due);
+    let fed = session.feed(piece, due, buffers);
     write_due(output, due)?;
     fed
 }

@@ -15,8 +15,8 @@ use crate::offer::OfferedName;
 use bitflags::Flags;
 use image_model::Geometry;
 use nbd_wire::{
-    Answer, CommandFlags, Errno, MAX_PAYLOAD, Reply, Request, RequestHead, SessionFlags,
-    StreamFault, WRITE, encode_before_data, write_unflushed, write_whole,
+    Answer, CommandFlags, DataBuffers, Errno, MAX_PAYLOAD, Reply, Request, RequestHead,
+    SessionFlags, StreamFault, WRITE, encode_before_data, write_unflushed, write_whole,
 };
 use std::io::Write;
 
@@ -24,7 +24,7 @@ use std::io::Write;
 const MOST_DUE: usize = 1_048_576;
 
 /// An export, as a session sees it. `P` is what an export keeps of one connection.
-pub trait Serve<P> {
+pub trait Serve<P>: DataBuffers {
     // The relation of its calls, of the pass before, the request, what the session agreed on, the pass after and the reply.
     ghost allows: { Self → P → Message → SessionFlags → P → Reply → Type 0 };
 

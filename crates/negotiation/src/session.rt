@@ -9,7 +9,7 @@ use crate::answer::Agreed;
 use crate::end::End;
 use crate::offer::OfferedExport;
 use crate::stage::{Stage, Talk, discard, take_data, take_flags, take_head, wanted};
-use nbd_wire::{DISCONNECT, Request, SessionFlags, StreamReader};
+use nbd_wire::{DISCONNECT, DataBuffers, Request, SessionFlags, StreamReader};
 use option_wire::greeting;
 use std::alloc::{AllocError, Global};
 use std::io::{self, Read};
@@ -72,7 +72,12 @@ impl Session {
     ///
     /// Refusals 0 (no memory) and 20 (protocol end: what the client sent ends the session). Each comes after the
     /// requests before it, and all later calls give it too.
-    pub fn feed(&mut self, piece: &[u8], out: &mut Vec<u8>) -> Result<Vec<Request>, End>
+    pub fn feed<B: DataBuffers>(
+        &mut self,
+        piece: &[u8],
+        out: &mut Vec<u8>,
+        buffers: &B,
+    ) -> Result<Vec<Request>, End>
         // However the input was cut, these are its next requests, and this was due for its next options.
         ensures session { Feeds self.old piece.now out.old.items out.new.items (handed result) self.new }
         ensures offer { self.new.offer ≡ self.old.offer }
@@ -96,7 +101,7 @@ impl Session {
         };
         let (talk, rest) = negotiate(self.alloc, &self.offer, talk, piece, out)?;
         self.agreed = talk.agreed;
-        let (stage, requests) = hand_out(self.alloc, talk.stage, rest);
+        let (stage, requests) = hand_out(self.alloc, talk.stage, rest, buffers);
         self.stage = stage;
         requests
     }
@@ -227,7 +232,12 @@ fn advance(
 }
 
 // Reads the rest of a piece after the handshake, and hands out the requests in it.
-fn hand_out(alloc: Global, stage: Stage, rest: &[u8]) -> (Stage, Result<Vec<Request>, End>)
+fn hand_out<B: DataBuffers>(
+    alloc: Global,
+    stage: Stage,
+    rest: &[u8],
+    buffers: &B,
+) -> (Stage, Result<Vec<Request>, End>)
     requires sound { IsGreeted stage }
     requires all { (rest.now ≡ []) ⊎ (wanted_of stage ≡ 0) }
     ensures sound { IsGreeted result.0 }
@@ -240,7 +250,7 @@ fn hand_out(alloc: Global, stage: Stage, rest: &[u8]) -> (Stage, Result<Vec<Requ
     ensures held { held_by (standing_of result.0) < 28 + 1048576 }
 {
     match stage {
-        Stage::Requests(reader) => ask(reader, rest),
+        Stage::Requests(reader) => ask(reader, rest, buffers),
         Stage::Broken => (Stage::Broken, Err(End::ProtocolEnd)),
         Stage::Exhausted => (Stage::Exhausted, Err(End::NoMemory)),
         stage => (stage, Ok(Vec::new(alloc))),
@@ -248,7 +258,11 @@ fn hand_out(alloc: Global, stage: Stage, rest: &[u8]) -> (Stage, Result<Vec<Requ
 }
 
 // Hands out the requests before a DISC.
-fn ask(reader: StreamReader, piece: &[u8]) -> (Stage, Result<Vec<Request>, End>)
+fn ask<B: DataBuffers>(
+    reader: StreamReader,
+    piece: &[u8],
+    buffers: &B,
+) -> (Stage, Result<Vec<Request>, End>)
     ensures sound { IsGreeted result.0 }
     ensures hands { Hands (in_requests reader) piece.now (handed result.1) (standing_of result.0) }
     ensures fault { IfErr result.1 (λ end. end_of (standing_of result.0) ≡ Some end) }
@@ -259,7 +273,7 @@ fn ask(reader: StreamReader, piece: &[u8]) -> (Stage, Result<Vec<Request>, End>)
     ensures held { held_by (standing_of result.0) < 28 + 1048576 }
 {
     let mut reader = reader;
-    let mut requests = match reader.feed(piece) {
+    let mut requests = match reader.feed(piece, buffers) {
         Ok(requests) => requests,
         Err(fault) => return (Stage::Requests(reader), Err(End::from(fault))),
     };

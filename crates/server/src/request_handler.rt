@@ -16,8 +16,8 @@ use export_model::Mode;
 use image_model::Geometry;
 use marks::Trust;
 use nbd_wire::{
-    Answer, BLOCK_STATUS, CommandFlags, FLUSH, READ, Reply, Request, RequestHead, SessionFlags,
-    TRIM, WRITE, WRITE_ZEROES,
+    Answer, BLOCK_STATUS, CommandFlags, DataBuffers, FLUSH, READ, Reply, Request, RequestHead,
+    SessionFlags, TRIM, WRITE, WRITE_ZEROES,
 };
 use negotiation::{OfferedName, Serve};
 use std::cell::Cell;
@@ -57,6 +57,20 @@ pub struct RequestHandler<
     pub name: OfferedName<'a>,
     // The buffer of the last short READ, for the next one.
     pub buffer: &'a Cell<Option<Vec<u8>>>,
+}
+
+impl<
+    'a,
+    B: ExportName,
+    D: Disk,
+    H: ReadUnlocked,
+    T: Trust,
+    R: Wait + Clock,
+    L: SyncPoints + Watch + Copy,
+> DataBuffers for RequestHandler<'a, B, D, H, T, R, L> {
+    fn take(&self, room: usize) -> Option<Vec<u8>> {
+        self.export.data_buffer(self.rt, room)
+    }
 }
 
 impl<

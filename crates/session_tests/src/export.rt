@@ -3,7 +3,8 @@ ghost use Rattle.std.specs.Prelude.{⊤, true};
 use crate::fakes::{FakeReader, FakeWriter};
 use image_model::Geometry;
 use nbd_wire::{
-    Answer, BLOCK_STATUS, Errno, READ, ReadBytes, Reply, Request, RequestHead, SessionFlags,
+    Answer, BLOCK_STATUS, DataBuffers, Errno, READ, ReadBytes, Reply, Request, RequestHead,
+    SessionFlags,
 };
 use negotiation::{End, OfferedName, Serve, serve_session};
 use std::alloc::{AllocError, Global};
@@ -17,6 +18,12 @@ pub struct Counted<'a> {
     alloc: Global,
     geometry: Geometry,
     name: OfferedName<'a>,
+}
+
+impl<'a> DataBuffers for Counted<'a> {
+    fn take(&self, _room: usize) -> Option<Vec<u8>> {
+        None
+    }
 }
 
 impl<'a> Serve<u64> for Counted<'a> {

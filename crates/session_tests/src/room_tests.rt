@@ -119,11 +119,11 @@ fn data_that_are_read_into_their_room_are_those_of_the_stream(rt: HostRuntime) -
     };
     let mut reader = StreamReader::new(alloc);
     assert!(rt; reader.room() == 0);
-    assert!(rt; reader.feed(&encode_request(&head))?.is_empty());
+    assert!(rt; reader.feed(&encode_request(&head), &())?.is_empty());
     let mut rest = sent.as_slice();
     fill(&mut reader, &mut rest)?;
     assert!(rt; reader.room() == 1 && rest.len() == 1);
-    let requests = reader.feed(rest)?;
+    let requests = reader.feed(rest, &())?;
     assert!(rt; requests.len() == 1);
     assert!(rt;
         requests

@@ -24,6 +24,7 @@ use crate::group::SealedGroup;
 use crate::name::ImageName;
 use checkpoint::{Keeper, KeeperFault};
 use disk_model::Disk;
+use image_model::Command;
 use marks::{Board, KeeperSeat, Pass, Trust};
 use nbd_wire::Request;
 use order_book::Order;
@@ -131,6 +132,20 @@ impl<B: ImageName, D: Disk> SharedKeeper<B, D> {
                 Err(Unstored::Failed)
             }
         }
+    }
+
+    /// Frees memory that is kept for the next steps.
+    pub fn free_memory(&mut self)
+        ensures { self.new ≡ self.old }
+    {
+        self.keeper.free_memory();
+    }
+
+    /// The commands of the last group that was stored, for those who use their memory again.
+    pub fn take_stored(&mut self) -> Vec<Command>
+        ensures { self.new ≡ self.old }
+    {
+        self.keeper.take_stored()
     }
 
     /// Raises the order's durable number to what is stored.

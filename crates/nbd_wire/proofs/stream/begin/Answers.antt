@@ -6,7 +6,7 @@ use Rattle.nbd_wire.proofs.stream.begin.Goals as goal
 use Rattle.nbd_wire.proofs.stream.begin.Goals.{then-head-ne-WRITE-via-then-head-ne-WRITE, then-head-ne-WRITE-via-else-head-ne-WRITE+then-head-eq0}
 
 pub returns-then-head-ne-WRITE-clause-reads : goal.returns-then-head-ne-WRITE-clause-reads
-returns-then-head-ne-WRITE-clause-reads c =
+returns-then-head-ne-WRITE-clause-reads g c =
     let none : data_len c.in-Ok.head ≡ 0 =
     elim c.then-head-ne-WRITE.branch [
       | then-head-ne-WRITE-via-then-head-ne-WRITE w ↦ data_len_other c.in-Ok.head w.if-head-ne-WRITE.true

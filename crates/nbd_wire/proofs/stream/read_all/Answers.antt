@@ -19,7 +19,7 @@ at_err (Ok value) more old new is err = cc
 at_err (Err error) more old new is err = is
 
 pub returns-in_default-advance : goal.returns-in_default-advance
-returns-in_default-advance c =
+returns-in_default-advance g c =
     let some : 0 < length c.loop-rest.rest.now = some_left _ (sym c.is_empty.ensures ∙ c.loop-rest-test.true) in
     let count : c.min.result ≡ min (length c.loop-rest.rest.now) (wanted_of c.loop-rest.state) = c.min.ensures ∙ ap (λ (most : ℕ). min (length c.loop-rest.rest.now) most) c.wanted.ensures.value in
     record {
@@ -32,7 +32,7 @@ returns-in_default-advance c =
     }
 
 pub returns-then-is_err : goal.returns-then-is_err
-returns-then-is_err c =
+returns-then-is_err g c =
     let unchanged : c.push.new.self.items ≡ c.loop-rest.requests.items = at_err c.push.result _ _ _ c.push.ensures.items (sym c.is_err.ensures.value ∙ c.if-is_err.true) in
     let some : 0 < length c.loop-rest.rest.now = some_left _ (sym c.is_empty.ensures ∙ c.loop-rest-test.true) in
     let count : c.min.result ≡ min (length c.loop-rest.rest.now) (wanted_of c.loop-rest.state) = c.min.ensures ∙ ap (λ (most : ℕ). min (length c.loop-rest.rest.now) most) c.wanted.ensures.value in
@@ -46,7 +46,7 @@ returns-then-is_err c =
     }
 
 pub loop-rest-preserved-else-is_err : goal.loop-rest-preserved-else-is_err
-loop-rest-preserved-else-is_err c =
+loop-rest-preserved-else-is_err g c =
     let parts : c.loop-rest.rest.now ≡ c.split_at.result.0.now ++ c.split_at.result.1.now = c.split_at.ensures.by_index.0 in
     let pushed : c.push.new.self.items ≡ c.loop-rest.requests.items ++ c.in-Some.request ∷ [] = at_ok c.push.result _ _ _ c.push.ensures.items (sym c.is_err.ensures.value ∙ c.if-is_err.false) in
     let some : 0 < length c.loop-rest.rest.now = some_left _ (sym c.is_empty.ensures ∙ c.loop-rest-test.true) in
@@ -60,7 +60,7 @@ loop-rest-preserved-else-is_err c =
     }
 
 pub loop-rest-preserved : goal.loop-rest-preserved
-loop-rest-preserved c =
+loop-rest-preserved g c =
     let parts : c.loop-rest.rest.now ≡ c.split_at.result.0.now ++ c.split_at.result.1.now = c.split_at.ensures.by_index.0 in
     let some : 0 < length c.loop-rest.rest.now = some_left _ (sym c.is_empty.ensures ∙ c.loop-rest-test.true) in
     let count : c.min.result ≡ min (length c.loop-rest.rest.now) (wanted_of c.loop-rest.state) = c.min.ensures ∙ ap (λ (most : ℕ). min (length c.loop-rest.rest.now) most) c.wanted.ensures.value in

@@ -6,11 +6,11 @@ use Rattle.nbd_wire.proofs.UnfinishedPiece.{Quiet}
 use Rattle.nbd_wire.proofs.stream.read_all.Given as goal
 
 abbrev pub invariant-loop-rest : goal.invariant-loop-rest
-invariant-loop-rest l = record {
+invariant-loop-rest g l = record {
   sound : IsState l.state;
   step : Step l.piece l.rest (kept l.fn.state) (kept l.state) l.requests.items;
   part : length l.piece < missing_len (reading (kept l.fn.state)) → Quiet l.piece l.rest l.fn.state l.state l.requests.items;
 }
 
 abbrev pub decreases-loop-rest : goal.decreases-loop-rest
-decreases-loop-rest l = length l.rest
+decreases-loop-rest g l = length l.rest

@@ -8,10 +8,10 @@ use Rattle.negotiation.proofs.Sessions.{end_from}
 use Rattle.negotiation.proofs.session.ask.Goals as goal
 
 pub returns-in-Err-clause-hands : goal.returns-in-Err-clause-hands
-returns-in-Err-clause-hands c = hands_none c.args.reader c.feed.new.self c.args.piece.now [] c.in-Err.ensures.stream refl
+returns-in-Err-clause-hands g c = hands_none c.args.reader c.feed.new.self c.args.piece.now [] c.in-Err.ensures.stream refl
 
 pub returns-in-Some-clause-hands : goal.returns-in-Some-clause-hands
-returns-in-Some-clause-hands c =
+returns-in-Some-clause-hands g c =
     let place : position is_disc c.in-Ok.requests.items ≡ Some c.in-Some.place = ap (position is_disc) (sym c.deref.ensures.value) ∙ sym c.disc_place.ensures ∙ c.in-Some.is in
     let found = found_place is_disc c.in-Ok.requests.items c.in-Some.place place in
     let before : c.truncate.new.self.items ≡ take c.in-Some.place c.in-Ok.requests.items = search rules in
@@ -19,30 +19,30 @@ returns-in-Some-clause-hands c =
     (hands_disc c.args.reader c.feed.new.self c.args.piece.now c.in-Ok.requests.items c.in-Ok.ensures.stream found.0)
 
 pub returns-in-Some-clause-no_disc : goal.returns-in-Some-clause-no_disc
-returns-in-Some-clause-no_disc c =
+returns-in-Some-clause-no_disc g c =
     let place : position is_disc c.in-Ok.requests.items ≡ Some c.in-Some.place = ap (position is_disc) (sym c.deref.ensures.value) ∙ sym c.disc_place.ensures ∙ c.in-Some.is in
     let found = found_place is_disc c.in-Ok.requests.items c.in-Some.place place in
     let before : c.truncate.new.self.items ≡ take c.in-Some.place c.in-Ok.requests.items = search rules in
     subst HasNoDisc (sym found.1 ∙ sym before) (none_before_first is_disc c.in-Ok.requests.items)
 
 pub returns-in-Some-clause-again : goal.returns-in-Some-clause-again
-returns-in-Some-clause-again c = λ end is.
+returns-in-Some-clause-again g c = λ end is.
     let found = end_from c.args.reader end is in cc (c.in-Ok.ensures.again found.0 found.1)
 
 pub returns-in-None-clause-hands : goal.returns-in-None-clause-hands
-returns-in-None-clause-hands c =
+returns-in-None-clause-hands g c =
     let place : position is_disc c.in-Ok.requests.items ≡ None = ap (position is_disc) (sym c.deref.ensures.value) ∙ sym c.disc_place.ensures ∙ c.in-None.is in
     hands_none c.args.reader c.feed.new.self c.args.piece.now c.in-Ok.requests.items c.in-Ok.ensures.stream (no_place is_disc c.in-Ok.requests.items place)
 
 pub returns-in-None-clause-no_disc : goal.returns-in-None-clause-no_disc
-returns-in-None-clause-no_disc c =
+returns-in-None-clause-no_disc g c =
     let place : position is_disc c.in-Ok.requests.items ≡ None = ap (position is_disc) (sym c.deref.ensures.value) ∙ sym c.disc_place.ensures ∙ c.in-None.is in
     no_place is_disc c.in-Ok.requests.items place
 
 pub returns-in-None-clause-again : goal.returns-in-None-clause-again
-returns-in-None-clause-again c = λ end is.
+returns-in-None-clause-again g c = λ end is.
     let found = end_from c.args.reader end is in cc (c.in-Ok.ensures.again found.0 found.1)
 
 pub returns-in-None-clause-first : goal.returns-in-None-clause-first
-returns-in-None-clause-first c = λ end is.
+returns-in-None-clause-first g c = λ end is.
     let found = end_from c.feed.new.self end is in c.in-Ok.ensures.first found.0 found.1

@@ -90,7 +90,7 @@ invariant_of-self-in-Ok g c =
     let first : IsSized c.in-Some.plan.first geometry extent = subst (λ (p : Option PlanState). IfSome p (λ f. IsSized f.first geometry extent)) some is.2 in (
       extents ∙ is.0,
       is.1,
-      subst (λ (p : PlanState). IsSized p.first geometry (g.D.Disk.extent c.copy_over.new.disk)) (sym c.advance.ensures) (subst (λ (e : ℕ). IsSized c.in-Some.plan.first geometry e) (sym extents) first),
+      subst (λ (p : PlanState). IsSized p.first geometry (g.D.Disk.extent c.copy_over-done.new.disk)) (sym c.advance.ensures) (subst (λ (e : ℕ). IsSized c.in-Some.plan.first geometry e) (sym extents) first),
       subst (λ (e : ℕ). AreSized waiting geometry e) (sym extents) is.3,
       λ none. absurd (some_apart _ none),
       is.5 ∙ ap (λ (p : Option PlanState). length (plans_of p waiting)) some,
@@ -286,7 +286,7 @@ returns-in-Ok g c = record {
       let put = c.in-Some-next_copy.put in
       let put_is = c.in-Some-next_copy.ensures.some in
       let next = c.advance.new.self in
-      let disk = c.copy_over.new.disk in
+      let disk = c.copy_over-done.new.disk in
       let memory : Memory = record { header = inside.header; slot = inside.slot; map = inside.map; plans = next ∷ waiting; area = inside.area } in
       let turned = ap (λ (p : PlanState). turned_of (p ∷ waiting)) c.advance.ensures in
       let lefts = ap (λ (p : PlanState). lefts_of (p ∷ waiting)) c.advance.ensures in
@@ -357,25 +357,25 @@ returns-in-Ok g c = record {
       let place : block_at c.from_geometry-regions.result.geometry put.first ≡ block_at inside.keeps.stands.header.geometry put.first = ap (λ (size : Geometry). block_at size put.first) (c.from_geometry-regions.ensures ∙ inside.keeps.sizes) in
       let count : length c.deref_mut.result.now ≡ 4096 * put.blocks = omega (arith, c.deref_mut.ensures.len, c.in_ok-buffer.ensures.len) in
       copy_held _ (g.D.Disk.state c.self.inside.disk) base fronts last inside c.in-Some.plan c.self.inside.waiting.items (ap (λ (p : Option PlanState). plans_of p c.self.inside.waiting.items) c.in-Some.is) put c.args.most c.in-Some-next_copy.ensures.some c.in-Some-next_copy.ensures.unmapped
-      (g.D.Disk.state c.copy_over.new.disk) _ _ _ _ c.advance.new.self place count (search rules)
+      (g.D.Disk.state c.copy_over-done.new.disk) _ _ _ _ c.advance.new.self place count (search rules)
       (c.in-Ok.ensures.copied sound inside.keeps.steady) c.advance.ensures refl;
   any_moment = λ honest image number keeps.
       let put = c.in-Some-next_copy.put in
-      subst (λ (k : KeeperState g.row.D.Denot). g.D.Disk.honest k.disk → Keeps k (g.D.Disk.state k.disk) image number → LeavesOnly (g.D.Disk.state k.disk) (g.D.Disk.state c.copy_over.new.disk) (λ content. StandsFor content image number)) c.self.view_is
+      subst (λ (k : KeeperState g.row.D.Denot). g.D.Disk.honest k.disk → Keeps k (g.D.Disk.state k.disk) image number → LeavesOnly (g.D.Disk.state k.disk) (g.D.Disk.state c.copy_over-done.new.disk) (λ content. StandsFor content image number)) c.self.view_is
       (λ sound inside.
       let place : block_at c.from_geometry-regions.result.geometry put.first ≡ block_at inside.stands.header.geometry put.first = ap (λ (size : Geometry). block_at size put.first) (c.from_geometry-regions.ensures ∙ inside.sizes) in
       let count : length c.deref_mut.result.now ≡ 4096 * put.blocks = omega (arith, c.deref_mut.ensures.len, c.in_ok-buffer.ensures.len) in
-      weakens (c.copy_over.ensures.any_moment sound)
+      weakens (c.copy_over-done.ensures.any_moment sound)
       (copy_left _ (g.D.Disk.state c.self.inside.disk) image number inside c.in-Some.plan c.self.inside.waiting.items (ap (λ (p : Option PlanState). plans_of p c.self.inside.waiting.items) c.in-Some.is) put c.args.most c.in-Some-next_copy.ensures.some c.in-Some-next_copy.ensures.unmapped _ _ place count))
       honest keeps;
   header = λ honest image number keeps.
-      subst (λ (k : KeeperState g.row.D.Denot). g.D.Disk.honest k.disk → Keeps k (g.D.Disk.state k.disk) image number → LeavesOnly (g.D.Disk.state k.disk) (g.D.Disk.state c.copy_over.new.disk) (HasHeader k.geometry k.generation)) c.self.view_is
-      (λ sound inside. weakens (c.copy_over.ensures.any_moment sound) (header_torn _ (g.D.Disk.state c.self.inside.disk) image number inside _ _ (omega arith)))
+      subst (λ (k : KeeperState g.row.D.Denot). g.D.Disk.honest k.disk → Keeps k (g.D.Disk.state k.disk) image number → LeavesOnly (g.D.Disk.state k.disk) (g.D.Disk.state c.copy_over-done.new.disk) (HasHeader k.geometry k.generation)) c.self.view_is
+      (λ sound inside. weakens (c.copy_over-done.ensures.any_moment sound) (header_torn _ (g.D.Disk.state c.self.inside.disk) image number inside _ _ (omega arith)))
       honest keeps;
 }
 
-pub returns : goal.returns
-returns g c = record {
+pub returns-in-Err : goal.returns-in-Err
+returns-in-Err g c = record {
   ok = tt;
   left = tt;
   err =
@@ -396,7 +396,7 @@ returns g c = record {
         memory = record { header = inside.header; slot = inside.slot; map = inside.map; plans = plans; area = inside.area };
       } in
       let same = ap made (sym c.in-Some.is) ∙ c.self.view_is in
-      let disk = c.copy_over.new.disk in
+      let disk = c.copy_over-done.new.disk in
       ap (λ (k : KeeperState g.row.D.Denot). let next : KeeperState g.row.D.Denot = record k { disk = disk; failed = true } in next) same ∙ ap (λ (f : KeeperFault). refused_by f c.args.self.now disk) (sym c.from.ensures);
   failed =
       let works = ap (λ (k : KeeperState g.row.D.Denot). k.failed) (sym c.self.view_is) ∙ c.if-self.false in
@@ -422,19 +422,19 @@ returns g c = record {
   held = λ honest base fronts last holds. tt;
   any_moment = λ honest image number keeps.
       let put = c.in-Some-next_copy.put in
-      subst (λ (k : KeeperState g.row.D.Denot). g.D.Disk.honest k.disk → Keeps k (g.D.Disk.state k.disk) image number → LeavesOnly (g.D.Disk.state k.disk) (g.D.Disk.state c.copy_over.new.disk) (λ content. StandsFor content image number)) c.self.view_is
+      subst (λ (k : KeeperState g.row.D.Denot). g.D.Disk.honest k.disk → Keeps k (g.D.Disk.state k.disk) image number → LeavesOnly (g.D.Disk.state k.disk) (g.D.Disk.state c.copy_over-done.new.disk) (λ content. StandsFor content image number)) c.self.view_is
       (λ sound inside.
       let place : block_at c.from_geometry-regions.result.geometry put.first ≡ block_at inside.stands.header.geometry put.first = ap (λ (size : Geometry). block_at size put.first) (c.from_geometry-regions.ensures ∙ inside.sizes) in
       let count : length c.deref_mut.result.now ≡ 4096 * put.blocks = omega (arith, c.deref_mut.ensures.len, c.in_ok-buffer.ensures.len) in
-      weakens (c.copy_over.ensures.any_moment sound)
+      weakens (c.copy_over-done.ensures.any_moment sound)
       (copy_left _ (g.D.Disk.state c.self.inside.disk) image number inside c.in-Some.plan c.self.inside.waiting.items (ap (λ (p : Option PlanState). plans_of p c.self.inside.waiting.items) c.in-Some.is) put c.args.most c.in-Some-next_copy.ensures.some c.in-Some-next_copy.ensures.unmapped _ _ place count))
       honest keeps;
   header = λ honest image number keeps.
-      subst (λ (k : KeeperState g.row.D.Denot). g.D.Disk.honest k.disk → Keeps k (g.D.Disk.state k.disk) image number → LeavesOnly (g.D.Disk.state k.disk) (g.D.Disk.state c.copy_over.new.disk) (HasHeader k.geometry k.generation)) c.self.view_is
-      (λ sound inside. weakens (c.copy_over.ensures.any_moment sound) (header_torn _ (g.D.Disk.state c.self.inside.disk) image number inside _ _ (omega arith)))
+      subst (λ (k : KeeperState g.row.D.Denot). g.D.Disk.honest k.disk → Keeps k (g.D.Disk.state k.disk) image number → LeavesOnly (g.D.Disk.state k.disk) (g.D.Disk.state c.copy_over-done.new.disk) (HasHeader k.geometry k.generation)) c.self.view_is
+      (λ sound inside. weakens (c.copy_over-done.ensures.any_moment sound) (header_torn _ (g.D.Disk.state c.self.inside.disk) image number inside _ _ (omega arith)))
       honest keeps;
 }
 
-pub copy_over-requires-clause-device : goal.copy_over-requires-clause-device
-copy_over-requires-clause-device g c =
+pub copy_over-done-requires-clause-device : goal.copy_over-done-requires-clause-device
+copy_over-done-requires-clause-device g c =
     c.self.invariant.0 ∙ ap (λ (size : Geometry). device_bytes_of size.blocks size.area) (sym c.from_geometry-regions.ensures)

@@ -6,7 +6,7 @@ use Rattle.nbd_wire.specs.laws.Streams.{Feeds-advances}
 use Rattle.nbd_wire.proofs.stream.StreamReader.feed.Goals as goal
 
 pub returns-clause-stream : goal.returns-clause-stream
-returns-clause-stream c =
+returns-clause-stream g c =
     let new : Reader = reader_of c.read_all-state.result.0 in
     let old : reading (kept c.in-Some.state) ≡ c.args.self.now = ap reader_of (sym c.in-Some.is ∙ c.take.ensures.value) ∙ c.self.view_is in
     subst (λ (r : Reader). Feeds r c.args.piece.now (answered c.answer.result) new) old

@@ -14,7 +14,7 @@ use Rattle.negotiation.proofs.Sessions.{behind_idle, behind_or, cut_short, ended
 use Rattle.negotiation.proofs.session.Session.feed.Goals as goal
 
 pub returns-in_err-stage-clause-session : goal.returns-in_err-stage-clause-session
-returns-in_err-stage-clause-session c =
+returns-in_err-stage-clause-session g c =
     let offer = c.self.inside.offer in
     let agreed = c.self.inside.agreed in
     let piece = c.args.piece.now in
@@ -29,7 +29,7 @@ returns-in_err-stage-clause-session c =
     (not_greeted old new piece before after c.in_err-stage.ensures.first c.in_err-stage.ensures.err end))
 
 pub returns-in_err-talk-clause-session : goal.returns-in_err-talk-clause-session
-returns-in_err-talk-clause-session c =
+returns-in_err-talk-clause-session g c =
     let offer = c.self.inside.offer in
     let agreed = c.self.inside.agreed in
     let piece = c.args.piece.now in
@@ -56,7 +56,7 @@ all_written : {old new : SessionState} {piece before after later : List ℕ} {re
 all_written {old} {new} {piece} {before} {after} {later} {requests} feeds same = subst (λ (a : List ℕ). Feeds old piece before a requests new) (sym same) feeds
 
 pub returns-clause-session : goal.returns-clause-session
-returns-clause-session c =
+returns-clause-session g c =
     let offer = c.self.inside.offer in
     let agreed = c.self.inside.agreed in
     let piece = c.args.piece.now in
@@ -82,7 +82,7 @@ returns-clause-session c =
     ])) (search rules)
 
 pub returns-clause-again : goal.returns-clause-again
-returns-clause-again c = λ end is.
+returns-clause-again g c = λ end is.
     let offer = c.self.inside.offer in
     let agreed = c.self.inside.agreed in
     let old = session_at offer agreed (standing_of c.replace-stage.result) in
@@ -94,84 +94,84 @@ returns-clause-again c = λ end is.
     c.hand_out-stage.ensures.again end (ap (λ (talk : Talk). end_of (standing_of talk.stage)) idle.0.0 ∙ still)
 
 pub returns-clause-said : goal.returns-clause-said
-returns-clause-said c = said_behind c.hand_out-stage.result.0 c.hand_out-stage.ensures.sound
+returns-clause-said g c = said_behind c.hand_out-stage.result.0 c.hand_out-stage.ensures.sound
 
 pub returns-in_err-stage-clause-offer : goal.returns-in_err-stage-clause-offer
-returns-in_err-stage-clause-offer c =
+returns-in_err-stage-clause-offer g c =
     ap (λ (s : SessionState). s.offer) c.self.view_is
 
 pub returns-in_err-stage-clause-fault : goal.returns-in_err-stage-clause-fault
-returns-in_err-stage-clause-fault c =
+returns-in_err-stage-clause-fault g c =
     err_given (λ (end : End). end_of (standing_of c.replace-stage.new.dest) ≡ Some end) c.from_residual.result NoMemory c.from_residual.ensures.1 (ap (λ (stage : Stage). end_of (standing_of stage)) c.replace-stage.ensures.after)
 
 pub returns-in_err-stage-clause-first : goal.returns-in_err-stage-clause-first
-returns-in_err-stage-clause-first c end is =
+returns-in_err-stage-clause-first g c end is =
     IfOk-from_err c.from_residual.result _ c.from_residual.ensures.0
 
 pub returns-in_err-stage-clause-said : goal.returns-in_err-stage-clause-said
-returns-in_err-stage-clause-said c =
+returns-in_err-stage-clause-said g c =
     subst (λ (stage : Stage). IsSaid (standing_of stage)) (sym c.replace-stage.ensures.after) tt
 
 pub returns-in_err-stage-clause-asks : goal.returns-in_err-stage-clause-asks
-returns-in_err-stage-clause-asks c =
+returns-in_err-stage-clause-asks g c =
     IfOk-from_err c.from_residual.result _ c.from_residual.ensures.0
 
 pub returns-in_err-stage-clause-no_disc : goal.returns-in_err-stage-clause-no_disc
-returns-in_err-stage-clause-no_disc c =
+returns-in_err-stage-clause-no_disc g c =
     IfOk-from_err c.from_residual.result _ c.from_residual.ensures.0
 
 pub returns-in_err-stage-clause-held : goal.returns-in_err-stage-clause-held
-returns-in_err-stage-clause-held c =
+returns-in_err-stage-clause-held g c =
     subst (λ (stage : Stage). held_by (standing_of stage) < 28 + 1048576) (sym c.replace-stage.ensures.after) (omega arith)
 
 pub returns-in_err-talk-clause-offer : goal.returns-in_err-talk-clause-offer
-returns-in_err-talk-clause-offer c =
+returns-in_err-talk-clause-offer g c =
     ap (λ (s : SessionState). s.offer) c.self.view_is
 
 pub returns-in_err-talk-clause-fault : goal.returns-in_err-talk-clause-fault
-returns-in_err-talk-clause-fault c =
+returns-in_err-talk-clause-fault g c =
     err_given (λ (end : End). end_of (standing_of c.replace-stage.new.dest) ≡ Some end) c.from_residual-in_err-talk.result NoMemory c.from_residual-in_err-talk.ensures.1 (ap (λ (stage : Stage). end_of (standing_of stage)) c.replace-stage.ensures.after)
 
 pub returns-in_err-talk-clause-first : goal.returns-in_err-talk-clause-first
-returns-in_err-talk-clause-first c end is =
+returns-in_err-talk-clause-first g c end is =
     IfOk-from_err c.from_residual-in_err-talk.result _ c.from_residual-in_err-talk.ensures.0
 
 pub returns-in_err-talk-clause-said : goal.returns-in_err-talk-clause-said
-returns-in_err-talk-clause-said c =
+returns-in_err-talk-clause-said g c =
     subst (λ (stage : Stage). IsSaid (standing_of stage)) (sym c.replace-stage.ensures.after) tt
 
 pub returns-in_err-talk-clause-asks : goal.returns-in_err-talk-clause-asks
-returns-in_err-talk-clause-asks c =
+returns-in_err-talk-clause-asks g c =
     IfOk-from_err c.from_residual-in_err-talk.result _ c.from_residual-in_err-talk.ensures.0
 
 pub returns-in_err-talk-clause-no_disc : goal.returns-in_err-talk-clause-no_disc
-returns-in_err-talk-clause-no_disc c =
+returns-in_err-talk-clause-no_disc g c =
     IfOk-from_err c.from_residual-in_err-talk.result _ c.from_residual-in_err-talk.ensures.0
 
 pub returns-in_err-talk-clause-held : goal.returns-in_err-talk-clause-held
-returns-in_err-talk-clause-held c =
+returns-in_err-talk-clause-held g c =
     subst (λ (stage : Stage). held_by (standing_of stage) < 28 + 1048576) (sym c.replace-stage.ensures.after) (omega arith)
 
 pub returns-clause-offer : goal.returns-clause-offer
-returns-clause-offer c =
+returns-clause-offer g c =
     ap (λ (s : SessionState). s.offer) c.self.view_is
 
 pub returns-clause-fault : goal.returns-clause-fault
-returns-clause-fault c =
+returns-clause-fault g c =
     c.hand_out-stage.ensures.fault
 
 pub returns-clause-first : goal.returns-clause-first
-returns-clause-first c =
+returns-clause-first g c =
     c.hand_out-stage.ensures.first
 
 pub returns-clause-asks : goal.returns-clause-asks
-returns-clause-asks c =
+returns-clause-asks g c =
     c.hand_out-stage.ensures.asks
 
 pub returns-clause-no_disc : goal.returns-clause-no_disc
-returns-clause-no_disc c =
+returns-clause-no_disc g c =
     c.hand_out-stage.ensures.no_disc
 
 pub returns-clause-held : goal.returns-clause-held
-returns-clause-held c =
+returns-clause-held g c =
     c.hand_out-stage.ensures.held
