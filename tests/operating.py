@@ -754,8 +754,8 @@ def kept(folder):
         for client in clients:
             client.join()
         server.watch()
-        # Beside the frames: 3 MiB for the program, and a few of what the C library keeps.
-        bound, end = FRAMES * BLOCK + 9 * MIB, time.monotonic() + 30
+        # Beside the frames: 3 MiB for the program, and 16 for what the C library keeps.
+        bound, end = FRAMES * BLOCK + 19 * MIB, time.monotonic() + 30
         while server.resident() > bound and time.monotonic() < end:
             time.sleep(0.5)
         check("kept: memory after a load", True, server.resident() <= bound or (server.most, server.resident()))

@@ -148,8 +148,22 @@ impl<D: Disk> Keeper<D> {
     pub fn free_memory(&mut self)
         ensures { self.new ≡ self.old }
     {
-        self.area.free_memory();
+        free_buffer(self.area.take_buffer());
         free_buffer(mem::replace(&mut self.copied, Vec::new(self.alloc)));
+    }
+
+    /// The memory that is kept for the bytes of a group. Whoever takes the next area into use gives it back after that.
+    pub fn take_buffer(&mut self) -> Vec<u8>
+        ensures { self.new ≡ self.old }
+    {
+        self.area.take_buffer()
+    }
+
+    /// Gives it memory for the bytes of a group.
+    pub fn give_buffer(&mut self, buffer: Vec<u8>)
+        ensures { self.new ≡ self.old }
+    {
+        self.area.give_buffer(buffer);
     }
 
     /// The commands of the last group that was stored, for those who use their memory again.

@@ -67,16 +67,16 @@ impl BufferPool {
         Some(buffer)
     }
 
-    /// Takes a buffer back. It is freed if enough are kept, or if memory is refused.
+    /// Takes a buffer back, for data if enough others are kept.
     pub(crate) fn put(&mut self, buffer: Vec<u8>) {
         if self.free.len() < MOST_KEPT && self.free.reserve(1).is_ok() {
             self.free.push_reserved(buffer);
         } else {
-            free_buffer(buffer);
+            self.put_data(buffer);
         }
     }
 
-    /// An empty buffer for this many bytes of data. None if none of their size is kept; fewer bytes than a block take one for a block.
+    /// An empty buffer for this many bytes. None if none of their size is kept; fewer bytes than a block take one for a block.
     pub(crate) fn take_data(&mut self, room: usize) -> Option<Vec<u8>>
         ensures { IfSome result (λ buffer. (buffer.items ≡ []) × (room ≤ vec_capacity buffer)) }
     {
@@ -90,7 +90,7 @@ impl BufferPool {
         Some(buffer)
     }
 
-    /// Keeps the memory of commands that aren't needed any more. What is too much is freed.
+    /// Keeps the memory of commands that aren't needed any more.
     pub(crate) fn put_commands(&mut self, commands: Vec<Command>) {
         let mut commands = commands;
         while let Some(command) = commands.pop() {
@@ -100,7 +100,8 @@ impl BufferPool {
         }
     }
 
-    fn put_data(&mut self, buffer: Vec<u8>) {
+    /// Keeps the memory of data, or of a READ that didn't need it. What is too much is freed, and what isn't of a size.
+    pub(crate) fn put_data(&mut self, buffer: Vec<u8>) {
         let size = buffer.capacity();
         let bytes = self.data_bytes.saturating_add(size);
         if bytes <= MOST_DATA

@@ -184,7 +184,11 @@ impl<B: ExportName, D: Disk> StorageEngine<B, D> {
 
     /// Takes the next area into use.
     pub(crate) fn rotate(&mut self) -> Result<(), KeeperFault> {
-        self.shared.rotate()?;
+        // (the next area would take memory for groups of its own)
+        let buffer = self.shared.take_buffer();
+        let rotated = self.shared.rotate();
+        self.shared.give_buffer(buffer);
+        rotated?;
         self.used = 0;
         self.waiting = self.waiting.saturating_add(1);
         Ok(())

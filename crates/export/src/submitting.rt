@@ -156,7 +156,7 @@ impl<B: ExportName, D: Disk, H: ReadUnlocked, T: Trust> Export<B, D, H, T> {
         }
     }
 
-    /// An empty buffer for this many bytes of a WRITE's data, if one is kept.
+    /// An empty buffer for this many bytes of a WRITE's data, or for a long READ to bring, if one is kept.
     pub fn data_buffer<R: Wait>(&self, rt: &R, room: usize) -> Option<Vec<u8>>
         ensures { IfSome result (λ buffer. (buffer.items ≡ []) × (room ≤ vec_capacity buffer)) }
     {
@@ -234,11 +234,22 @@ impl<B: ExportName, D: Disk, H: ReadUnlocked, T: Trust> Export<B, D, H, T> {
         ensures { IsServedAs T.logs T.trusted T.image B.opening B.image B.vouches B.trusted request terms pass.old pass.new result }
     {
         match self.serve_unlocked(rt, pass, &request, planned, &terms) {
-            Some(served) => served,
+            Some(served) => {
+                self.keep_room(rt, request);
+                served
+            }
             None if planned.is_none() && !self.can_read_edges(edges) => {
                 refuse(&request, &terms, Errno::Io)
             }
             None => self.serve_with_keeper(rt, pass, request, terms),
+        }
+    }
+
+    // Keeps the long memory that a READ brought for its bytes, which lie in other memory.
+    fn keep_room<R: Wait>(&self, rt: &R, request: Request) {
+        let (_head, room) = request.into_parts();
+        if room.capacity() >= LEAST_KEPT {
+            self.buffers.lock(rt).put_data(room);
         }
     }
 

@@ -122,12 +122,19 @@ impl Area {
         mem::replace(&mut self.stored, Vec::new(alloc))
     }
 
-    /// Frees the memory that is kept for the bytes of a group.
-    pub fn free_memory(&mut self)
+    /// The memory that is kept for the bytes of a group, for another area or to be freed.
+    pub fn take_buffer(&mut self) -> Vec<u8>
         ensures { self.new ≡ self.old }
     {
         let alloc = *self.stored.allocator();
-        free_buffer(mem::replace(&mut self.buffer, Vec::new(alloc)));
+        mem::replace(&mut self.buffer, Vec::new(alloc))
+    }
+
+    /// Gives it memory for the bytes of a group.
+    pub fn give_buffer(&mut self, buffer: Vec<u8>)
+        ensures { self.new ≡ self.old }
+    {
+        self.buffer = buffer;
     }
 
     /// Whether the list is empty.

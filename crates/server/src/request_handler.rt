@@ -26,6 +26,9 @@ use std::sync::Wait;
 use std::sync::atomic::{AtomicBool, Ordering};
 use std::time::{Duration, Instant};
 
+// A READ of so many bytes gets memory from the export.
+const LONG_READ: u32 = 65_536;
+
 /// Where a client's requests are submitted to an export.
 #[derive(Drop)]
 pub struct RequestHandler<
@@ -154,8 +157,8 @@ impl<
     R: Wait + Clock,
     L: SyncPoints + Watch + Copy,
 > RequestHandler<'a, B, D, H, T, R, L> {
-    // The same request. A READ gets the buffer of the one before it, if that is long enough: its bytes are copied into the memory
-    // that it brings, so no memory for them is taken under the order's lock.
+    // The same request. A READ gets the buffer of the one before it, if that is long enough, or a long one from the export: its bytes
+    // are copied into the memory that it brings, so no memory for them is taken under the order's lock.
     fn with_buffer(&self, request: Request) -> Request
         ensures { result ≡ request }
     {
@@ -163,7 +166,12 @@ impl<
         if head.kind != READ {
             return request;
         }
-        let Some(mut buffer) = self.buffer.replace(None) else {
+        let kept = if head.length < LONG_READ {
+            self.buffer.replace(None)
+        } else {
+            self.export.data_buffer(self.rt, head.length as usize)
+        };
+        let Some(mut buffer) = kept else {
             return request;
         };
         if buffer.capacity() < head.length as usize {

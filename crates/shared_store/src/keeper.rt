@@ -141,6 +141,20 @@ impl<B: ImageName, D: Disk> SharedKeeper<B, D> {
         self.keeper.free_memory();
     }
 
+    /// The memory that is kept for the bytes of a group.
+    pub fn take_buffer(&mut self) -> Vec<u8>
+        ensures { self.new ≡ self.old }
+    {
+        self.keeper.take_buffer()
+    }
+
+    /// Gives it memory for the bytes of a group.
+    pub fn give_buffer(&mut self, buffer: Vec<u8>)
+        ensures { self.new ≡ self.old }
+    {
+        self.keeper.give_buffer(buffer);
+    }
+
     /// The commands of the last group that was stored, for those who use their memory again.
     pub fn take_stored(&mut self) -> Vec<Command>
         ensures { self.new ≡ self.old }
