@@ -8,6 +8,7 @@ import contextlib
 import socket
 import struct
 import sys
+import time
 
 import checks
 from checks import (
@@ -263,6 +264,22 @@ def data(folder):
             check(f"the image, turn {turn}", True, checks.take(one, len(wanted)) == wanted)
 
 
+def unread(folder):
+    """A client that doesn't read yet what a long READ was answered: its next request is served all the same."""
+    with serve_new(folder, "unread", 128) as path, connect(path) as one, connect(path) as other:
+        for client in (one, other):
+            shake(client)
+        # (Linux keeps 208 KiB of replies for a Unix socket, or a chunk more, unless the server asks for more room)
+        length, end = 400 * 1024, time.monotonic() + 20
+        one.sendall(request(READ, 1, 0, length) + request(WRITE, 2, length, BLOCK) + bytes([9]) * BLOCK)
+        found = b"\0"
+        while found == b"\0" and time.monotonic() < end:
+            other.sendall(request(READ, 3, length, 1))
+            found = checks.take(other, 17)[16:]
+        check("unread: the WRITE after a long READ", bytes([9]), found)
+        check("unread: what was answered", True, checks.take(one, 16 + length + 16) == reply(1) + bytes(length) + reply(2))
+
+
 def ordered(folder):
     """In ordered a FLUSH and FUA are answered Ok, though they make nothing durable. Invalid requests are refused as in other modes."""
     with serve_new(folder, "ordered", 16, "--cache", "ordered", "--flush-interval", "0") as path:
@@ -271,4 +288,4 @@ def ordered(folder):
 
 
 if __name__ == "__main__":
-    sys.exit(checks.run_scenarios((requests, nothing, beginnings, by_turns, flags, lengths, buffers, data, ordered)))
+    sys.exit(checks.run_scenarios((requests, nothing, beginnings, by_turns, flags, lengths, buffers, data, unread, ordered)))

@@ -118,9 +118,7 @@ impl<B: ExportName, D: Disk, H: ReadUnlocked, T: Trust> Export<B, D, H, T> {
         state: &mut CopyState,
     ) -> bool {
         points.reach(Point::Step);
-        let turn = self.signals.turn.lock(rt);
-        let mut engine = self.engine.lock(rt);
-        drop(turn);
+        let mut engine = self.lock_engine(rt);
         let queue = self.queue.lock(rt);
         let is_full = queue.is_full();
         let (length, yields) = queue.copy_pace(is_full || engine.is_short());

@@ -11,7 +11,7 @@ use disk_model::Disk;
 use marks::Trust;
 use shared_store::{SealedGroup, Unstored};
 use std::rt::Clock;
-use std::sync::Wait;
+use std::sync::{MutexGuard, Wait};
 use std::time::{Duration, Instant};
 
 /// After how many seconds the memory that is kept for further requests is freed.
@@ -19,9 +19,7 @@ pub(crate) const KEPT_SECONDS: u64 = 10;
 
 // What came of a step of the flusher.
 enum FlusherStep<B: ExportName> {
-    // A group was sealed, and is stored next.
-    Sealed(SealedGroup<B>),
-    // It was stored, is pending again, or a call of the device failed.
+    // A group was stored, is pending again, or a call of the device failed.
     Done,
     // There was nothing to store for a while.
     Waited,
@@ -43,7 +41,7 @@ impl<B: ExportName, D: Disk, H: ReadUnlocked, T: Trust> Export<B, D, H, T> {
     /// A thread that waits alone stores the next group itself, if nothing else calls the flusher. If storing a group takes long and
     /// more requests are likely to wait for the same one, it is sealed a little later.
     ///
-    /// Every ten seconds it frees the memory that is kept for further requests, which may be in use again then.
+    /// Every ten seconds it frees the buffers that are kept for later requests.
     pub fn flusher<R: Wait + Clock, G: SyncPoints>(&self, rt: &R, points: &mut G) {
         self.store_groups(rt, points);
         self.queue.lock(rt).end();
@@ -59,8 +57,11 @@ impl<B: ExportName, D: Disk, H: ReadUnlocked, T: Trust> Export<B, D, H, T> {
         for _ in rt.forever() {
             self.free_kept(rt, &mut freed);
             let step = match in_hand {
-                Some(group) => self.store_next(rt, points, &mut pace, group),
-                None => self.next_group(rt, &mut pace),
+                Some(group) => {
+                    let engine = self.lock_engine(rt);
+                    self.store_next(rt, points, &mut pace, engine, group)
+                }
+                None => self.next_group(rt, points, &mut pace),
             };
             let Some(next) = self.after_step(rt, points, &mut retries, step) else {
                 return;
@@ -77,10 +78,7 @@ impl<B: ExportName, D: Disk, H: ReadUnlocked, T: Trust> Export<B, D, H, T> {
                 *freed = Instant::now(rt).ok();
                 let kept = self.buffers.lock(rt).take_all();
                 kept.free();
-                let turn = self.signals.turn.lock(rt);
-                let mut engine = self.engine.lock(rt);
-                drop(turn);
-                engine.free_memory();
+                self.lock_engine(rt).free_memory();
             }
             _ => {}
         }
@@ -95,7 +93,6 @@ impl<B: ExportName, D: Disk, H: ReadUnlocked, T: Trust> Export<B, D, H, T> {
         step: FlusherStep<B>,
     ) -> Option<Option<SealedGroup<B>>> {
         match step {
-            FlusherStep::Sealed(group) => Some(Some(group)),
             FlusherStep::Waited => Some(None),
             FlusherStep::Ended => None,
             FlusherStep::Done => {
@@ -129,8 +126,13 @@ impl<B: ExportName, D: Disk, H: ReadUnlocked, T: Trust> Export<B, D, H, T> {
         queue.is_stopped() || (queue.have_all_left() && retries.is_hopeless())
     }
 
-    // Seals the next group that is to be stored, where there is one, else it waits for a while.
-    fn next_group<R: Wait + Clock>(&self, rt: &R, pace: &mut Pace) -> FlusherStep<B> {
+    // Stores the next group if one is due; otherwise it waits for a while.
+    fn next_group<R: Wait + Clock, G: SyncPoints>(
+        &self,
+        rt: &R,
+        points: &mut G,
+        pace: &mut Pace,
+    ) -> FlusherStep<B> {
         let mut queue = self.queue.lock(rt);
         if queue.is_stopped() || queue.is_done() {
             return FlusherStep::Ended;
@@ -143,25 +145,45 @@ impl<B: ExportName, D: Disk, H: ReadUnlocked, T: Trust> Export<B, D, H, T> {
             let _woken = self.signals.work.wait_timeout(rt, queue, left);
             return FlusherStep::Waited;
         }
-        match queue.seal(&self.board, Instant::now(rt).ok()) {
+        drop(queue);
+        self.seal_and_store(rt, points, pace)
+    }
+
+    // Seals the next group and stores it, if one is still due. It is sealed under the keeper lock, so it also has what was accepted while
+    // this thread waited for that lock.
+    fn seal_and_store<R: Wait + Clock, G: SyncPoints>(
+        &self,
+        rt: &R,
+        points: &mut G,
+        pace: &mut Pace,
+    ) -> FlusherStep<B> {
+        let engine = self.lock_engine(rt);
+        let mut queue = self.queue.lock(rt);
+        if queue.is_stopped() || !queue.needs_flusher() {
+            return FlusherStep::Waited;
+        }
+        let sealed = queue.seal(&self.board, Instant::now(rt).ok());
+        drop(queue);
+        match sealed {
             Ok(Some(group)) => {
                 pace.seal();
-                FlusherStep::Sealed(group)
+                self.store_next(rt, points, pace, engine, group)
             }
             Ok(None) | Err(_) => FlusherStep::NoMemory(None),
         }
     }
 
-    // Stores the group that the flusher has sealed.
+    // Stores a group that the flusher has sealed.
     fn store_next<R: Wait + Clock, G: SyncPoints>(
         &self,
         rt: &R,
         points: &mut G,
         pace: &mut Pace,
+        engine: MutexGuard<'_, StorageEngine<B, D>>,
         group: SealedGroup<B>,
     ) -> FlusherStep<B> {
         let begin = Instant::now(rt).ok();
-        match self.store_group(rt, points, group) {
+        match self.store_group(rt, points, engine, group) {
             Ok(()) => {
                 pace.note(rt, begin);
                 FlusherStep::Done
@@ -198,7 +220,8 @@ impl<B: ExportName, D: Disk, H: ReadUnlocked, T: Trust> Export<B, D, H, T> {
         points: &mut G,
         group: SealedGroup<B>,
     ) {
-        match self.store_group(rt, points, group) {
+        let engine = self.lock_engine(rt);
+        match self.store_group(rt, points, engine, group) {
             Ok(()) => {}
             Err(group) => {
                 self.queue.lock(rt).put_back(&self.board, group);
@@ -207,24 +230,26 @@ impl<B: ExportName, D: Disk, H: ReadUnlocked, T: Trust> Export<B, D, H, T> {
         }
     }
 
-    // Stores a group under the keeper's lock, makes it pending again if the area is full, or fails. It comes back if memory is refused.
+    // Stores a group under the keeper lock, makes it pending again if the area is full, or fails. It comes back if memory is refused.
+    // Those who wait are told once the lock is free.
     fn store_group<R: Wait + Clock, G: SyncPoints>(
         &self,
         rt: &R,
         points: &mut G,
+        engine: MutexGuard<'_, StorageEngine<B, D>>,
         group: SealedGroup<B>,
     ) -> Result<(), SealedGroup<B>> {
-        let turn = self.signals.turn.lock(rt);
-        let mut engine = self.engine.lock(rt);
-        drop(turn);
+        let mut engine = engine;
         let begin = Instant::now(rt).ok();
         points.reach(Point::Append);
         match engine.append(&self.board, group) {
             Ok(stored) => {
                 tell_stored(points, stored, time_since(rt, begin));
-                self.publish(rt, &mut engine);
+                let (is_due, wanted) = self.publish(rt, &mut engine);
                 let commands = engine.take_stored();
                 drop(engine);
+                self.signals.progress.notify_all();
+                self.signals.notify(is_due, wanted);
                 self.buffers.lock(rt).put_commands(commands);
                 Ok(())
             }
@@ -242,14 +267,11 @@ impl<B: ExportName, D: Disk, H: ReadUnlocked, T: Trust> Export<B, D, H, T> {
         }
     }
 
-    // Makes durable what is stored, and tells those who wait.
-    fn publish<R: Wait>(&self, rt: &R, engine: &mut StorageEngine<B, D>) {
+    // Makes durable what is stored; whether the flusher and the checkpointer have work then.
+    fn publish<R: Wait>(&self, rt: &R, engine: &mut StorageEngine<B, D>) -> (bool, bool) {
         let mut queue = self.queue.lock(rt);
         let wanted = queue.publish(&self.board, engine);
-        let is_due = queue.needs_flusher();
-        drop(queue);
-        self.signals.progress.notify_all();
-        self.signals.notify(is_due, wanted);
+        (queue.needs_flusher(), wanted)
     }
 
     /// A call of the device has failed, by whichever handle: requests are refused from now on.

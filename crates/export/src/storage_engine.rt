@@ -1,5 +1,8 @@
 //! The state under the keeper lock.
-ghost use Rattle.std.specs.Prelude.{◌≡◌};
+ghost use Rattle.std.specs.Prelude.{◌≡◌, ◌+◌, ◌<◌, IfErr, OnOk};
+ghost use Rattle.checkpoint.specs.Keeper.{grown_by, refused_by};
+ghost use Rattle.checkpoint.specs.Steps.{rotated_by};
+ghost use Rattle.shared_store.specs.Back.{IsBack};
 
 use crate::name::ExportName;
 use checkpoint::KeeperFault;
@@ -151,7 +154,11 @@ impl<B: ExportName, D: Disk> StorageEngine<B, D> {
         &mut self,
         board: &Board<B, T>,
         sealed: SealedGroup<B>,
-    ) -> Result<StoredGroup, Unstored<B>> {
+    ) -> Result<StoredGroup, Unstored<B>>
+        ensures ok { OnOk result (self.new.shared.keeper ≡ grown_by self.old.shared.keeper sealed.group self.new.shared.keeper.disk self.new.shared.keeper.memory) }
+        ensures back { IfErr result (IsBack D.faults sealed self.old.shared.keeper self.new.shared.keeper) }
+        ensures copying { (self.new.waiting ≡ self.old.waiting) × (self.new.stage ≡ self.old.stage) }
+    {
         let group = sealed.group();
         let stored = StoredGroup {
             commands: group.commands().len() as u64,
@@ -163,12 +170,18 @@ impl<B: ExportName, D: Disk> StorageEngine<B, D> {
     }
 
     /// Frees memory that is kept for the next steps.
-    pub(crate) fn free_memory(&mut self) {
+    pub(crate) fn free_memory(&mut self)
+        ensures shared { self.new.shared ≡ self.old.shared }
+        ensures counts { (self.new.used ≡ self.old.used) × (self.new.waiting ≡ self.old.waiting) × (self.new.stage ≡ self.old.stage) }
+    {
         self.shared.free_memory();
     }
 
     /// The commands of the last group that was stored.
-    pub(crate) fn take_stored(&mut self) -> Vec<Command> {
+    pub(crate) fn take_stored(&mut self) -> Vec<Command>
+        ensures shared { self.new.shared ≡ self.old.shared }
+        ensures counts { (self.new.used ≡ self.old.used) × (self.new.waiting ≡ self.old.waiting) × (self.new.stage ≡ self.old.stage) }
+    {
         self.shared.take_stored()
     }
 
@@ -183,7 +196,13 @@ impl<B: ExportName, D: Disk> StorageEngine<B, D> {
     }
 
     /// Takes the next area into use.
-    pub(crate) fn rotate(&mut self) -> Result<(), KeeperFault> {
+    pub(crate) fn rotate(&mut self) -> Result<(), KeeperFault>
+        ensures ok { OnOk result (self.new.shared.keeper ≡ rotated_by self.old.shared.keeper self.new.shared.keeper.disk self.new.shared.keeper.memory) }
+        ensures err { IfErr result (λ fault. self.new.shared.keeper ≡ refused_by fault self.old.shared.keeper self.new.shared.keeper.disk) }
+        ensures counted { OnOk result ((self.new.used ≡ 0) × (self.old.waiting < 255 → self.new.waiting ≡ self.old.waiting + 1)) }
+        ensures uncounted { IfErr result (λ fault. (self.new.used ≡ self.old.used) × (self.new.waiting ≡ self.old.waiting)) }
+        ensures stage { self.new.stage ≡ self.old.stage }
+    {
         // (the next area would take memory for groups of its own)
         let buffer = self.shared.take_buffer();
         let rotated = self.shared.rotate();

@@ -382,9 +382,7 @@ impl<B: ExportName, D: Disk, H: ReadUnlocked, T: Trust> Export<B, D, H, T> {
         requires { MayServe T.logs T.trusted T.mode T.image B.opening B.image B.vouches B.trusted B.geometry request terms pass.old.client }
         ensures { IsServedAs T.logs T.trusted T.image B.opening B.image B.vouches B.trusted request terms pass.old pass.new result }
     {
-        let turn = self.signals.turn.lock(rt);
-        let mut engine = self.engine.lock(rt);
-        drop(turn);
+        let mut engine = self.lock_engine(rt);
         let mut queue = self.queue.lock(rt);
         let shared = &mut engine.shared;
         let served = queue.serve_with(self.alloc, request, shared, &self.board, pass, terms);

@@ -1,12 +1,17 @@
 use crate::client::Client;
+use libc::net;
 use std::io;
 use std::net::{TcpListener, TcpStream};
-use std::os::fd::OwnedFd;
+use std::os::fd::{AsRawFd, OwnedFd};
 use std::os::unix::net::{UnixListener, UnixStream};
 use std::time::Duration;
 
 // Milliseconds after which a wait at a shared listener ends, so that the end of the server is seen.
 const LONGEST_WAIT: u64 = 200;
+
+// How many bytes of replies Linux may keep for a client at a Unix socket that doesn't read them yet. It counts twice as many, because of
+// its own needs.
+const SEND_BUFFER: i32 = 524_288;
 
 #[derive(Drop)]
 enum Socket {
@@ -20,6 +25,15 @@ pub struct Listener {
     socket: Socket,
     // Whether another process has it too, and goes on with it after the server's end.
     is_shared: bool,
+}
+
+// Lets the system keep most of a long reply, so that the worker reads for the next request while the client takes this one. If the system
+// refuses, or allows less (`net.core.wmem_max`), the worker waits for the client sooner. (At a TCP socket the system chooses by itself.)
+fn lengthen_send_buffer(stream: &UnixStream) {
+    let mut value = [0; 16];
+    value[..4].copy_from_slice(&SEND_BUFFER.to_ne_bytes());
+    let descriptor = stream.as_raw_fd();
+    let _ = unsafe { net::setsockopt(descriptor, net::SOL_SOCKET, net::SO_SNDBUF, &value, 4) };
 }
 
 impl From<TcpListener> for Listener {
@@ -60,6 +74,7 @@ impl Listener {
             }
             Socket::Unix(listener) => {
                 let (stream, _) = listener.accept()?;
+                lengthen_send_buffer(&stream);
                 Ok(Client::Unix(stream))
             }
         }

@@ -26,7 +26,7 @@ use std::sync::Wait;
 use std::sync::atomic::{AtomicBool, Ordering};
 use std::time::{Duration, Instant};
 
-// A READ of so many bytes gets memory from the export.
+// A READ of this many bytes or more takes a buffer that the export keeps, if there is one. Shorter ones use one of their connection.
 const LONG_READ: u32 = 65_536;
 
 /// Where a client's requests are submitted to an export.
