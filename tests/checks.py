@@ -265,13 +265,13 @@ class Server:
     def watch(self):
         self.most = max(self.most, self.resident())
 
-    def goes_on(self, name, seconds=20):
-        """Checks that it lives, that its memory is below the bound, and that a good client writes, flushes and reads."""
+    def goes_on(self, name, seconds=20, kept=0):
+        """Checks that it lives, that its memory is below the bound and `kept` more, and that a good client writes, flushes and reads."""
         check(f"{name}: the server lives", None, self.process.poll())
         if self.process.poll() is not None:
             return
         self.watch()
-        bound = most_resident(self.workers)
+        bound = most_resident(self.workers) + kept
         check(f"{name}: resident memory of 1 to {bound} bytes", True, self.most if not 0 < self.most <= bound else True)
         self.writes += 1
         offset, data = self.writes % BLOCKS * BLOCK, block_of(self.writes)

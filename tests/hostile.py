@@ -277,7 +277,8 @@ def random_bytes(folder):
             server.watch()
         for thread in threads:
             thread.join()
-        server.goes_on(f"random bytes of seed {SEED}")
+        # (it keeps buffers for later requests: up to 16 MiB for the data of WRITEs, and 16 for READs)
+        server.goes_on(f"random bytes of seed {SEED}", kept=32 * MIB)
         check("there were random sessions", True, min(counts) > 20 or counts)
         print(f"{sum(counts)} random sessions of seed {SEED}", flush=True)
 
