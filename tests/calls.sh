@@ -135,6 +135,38 @@ made 'the calls of a recovery of an empty journal' 'fdatasync'
 called '' check d.img
 made 'the calls of a check' ''
 
+# A long group is written in pieces that end at multiples of 32 KiB. After every second whole piece the system is told that the last byte of
+# the piece before it and the first byte of this one aren't needed: so it begins to write both, and the sync has less to write.
+{
+    request 0000 1 1 0 163840
+    filled 163840 A
+    request 0000 3 2 0 0
+    request 0000 2 3 0 0
+} >long
+long_calls='fdatasync
+pwrite 8193 24575
+pwrite 32768 32768
+posix_fadvise 32767 2
+pwrite 65536 32768
+pwrite 98304 32768
+posix_fadvise 98303 2
+pwrite 131072 32768
+pwrite 163840 8223
+fdatasync
+pwrite 8192 1
+fdatasync'
+for fail in '' posix_fadvise; do
+    cp long input
+    fresh 64 2097152
+    called "$fail" pipe d.img
+    is "a pipe of a long write${fail:+ whose advice is refused}" "0|$(reply 1 0)$(reply 2 0)|" "$status|$output|$errors"
+    made "the calls of a long write${fail:+ whose advice is refused}" "$(printf '%s\n' "$long_calls" | sed "/^posix_fadvise/s/\$/${fail:+ failed}/")"
+    is "after a long write${fail:+ whose advice is refused}" 'commands 1' "$(found)"
+    filled 163840 A >first_blocks
+    tail -c 262144 d.img | head -c 163840 >found_blocks
+    same "the blocks of a long write${fail:+ whose advice is refused}" first_blocks found_blocks
+done
+
 # A recovery closes the first gate of the other area and syncs. The header with both areas goes to slot 1, whose gate is closed: body, sync,
 # gate, sync. The puts are copied, each longest run of blocks in one write. After each the system is told that the last byte of a page and the
 # first of the next aren't needed: so it begins to write both, and drops neither from its cache. Then the map with a sync; then the header with

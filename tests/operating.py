@@ -718,7 +718,8 @@ def yielding(folder):
         settings = preload_settings(folder, "fail_calls", CALLS_LOG=log, **slow)
         settings["env"]["LD_PRELOAD"] += f":{build_preload(folder, 'slow_sync')}"
         # (only the last row fills half of an area)
-        format_image(os.path.join(folder, f"{name}.img"), "--blocks", str(BLOCKS), "--area", "2097152" if repeats > 1 else "8388608")
+        area = 2097152 if repeats > 1 else 8388608
+        format_image(os.path.join(folder, f"{name}.img"), "--blocks", str(BLOCKS), "--area", str(area))
         with Server(folder, name, 1, made=True, **settings) as server, server.new_client() as client:
             sent = []
             for number in range(1, apart * repeats + 1):
@@ -730,7 +731,9 @@ def yielding(folder):
             end = time.monotonic() + 20
             while sum(copied) < FRAMES // 4 and time.monotonic() < end:
                 time.sleep(0.05)
-                copied = [calls.count(b"posix_fadvise") for calls in read_file(log).split(b"sched_yield")]
+                # (what is advised of groups lies in the two areas, before the data)
+                advised = [re.findall(rb"posix_fadvise (\d+)", calls) for calls in read_file(log).split(b"sched_yield")]
+                copied = [sum(int(place) > 8192 + 2 * area for place in places) for places in advised]
         check(f"{name}: blocks are copied", True, FRAMES // 4 <= sum(copied))
         check(f"{name}: the most blocks between two yields", True, max(copied) in longest or max(copied))
 

@@ -6,22 +6,22 @@ use std::fs::OpenFile;
 use std::io;
 use std::os::unix::fs::FileExt;
 
-/// The bytes of one write of the system. Linux caches a file in folios as large as the writes that filled it, and a later write of
-/// one block takes longer in a large folio.
-const PIECE: usize = 32768;
+/// The most bytes of one write of the system: 32 KiB. Linux caches a file in folios as large as the writes that filled it, and a later
+/// write of one block takes longer in a large folio.
+pub const MAX_PIECE: usize = 32768;
 
-/// Writes the bytes at `offset` in pieces that end at multiples of `PIECE`.
+/// Writes the bytes at `offset` in pieces that end at multiples of `MAX_PIECE`.
 fn write_pieces<F: FileExt>(file: &F, offset: u64, from: &[u8]) -> io::Result<()>
     requires { offset + length from.now < 2 ^ 64 }
 {
-    let first = PIECE - (offset % PIECE as u64) as usize;
+    let first = MAX_PIECE - (offset % MAX_PIECE as u64) as usize;
     if from.len() <= first {
         return file.write_all_at(from, offset);
     }
     let (head, rest) = from.split_at(first);
     file.write_all_at(head, offset)?;
     let mut at = offset + first as u64;
-    for piece in rest.chunks(PIECE) {
+    for piece in rest.chunks(MAX_PIECE) {
         file.write_all_at(piece, at)?;
         at = at.saturating_add(piece.len() as u64);
     }

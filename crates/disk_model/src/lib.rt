@@ -36,7 +36,7 @@ mod synced;
 pub use buffer::free_buffer;
 pub use disk::{DeviceFault, Disk};
 pub use fault_plan::CallKind;
-pub use file::FileDisk;
+pub use file::{FileDisk, MAX_PIECE};
 pub use history::CrashChoice;
 pub use sim::SimDisk;
 pub use synced::write_synced;

@@ -10,7 +10,7 @@ mod plan;
 mod refusal;
 
 /// The version of the program.
-pub const VERSION: &str = "1.3.8";
+pub const VERSION: &str = "1.3.9";
 
 pub use format_options::FormatOptions;
 pub use limits::{LEAST_FRAMES, LEAST_LOSS_BYTES, MOST_FRAMES, MOST_LOSS_BYTES};

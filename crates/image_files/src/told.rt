@@ -1,6 +1,7 @@
 use crate::copying::CopyProgress;
 use crate::noted::{FRONT_BYTES, HeaderSlots};
-use crate::writing_out::begin_writing;
+use crate::writing_out::{begin_writing, begin_writing_pieces};
+use disk_model::MAX_PIECE;
 use image_model::Geometry;
 use std::cell::Cell;
 use std::fmt::Display;
@@ -25,7 +26,7 @@ impl FileLines for HostRuntime {
 /// A device's file of which the first call that fails is told, with what was tried and why it failed.
 ///
 /// A write into the header slots of an image fails if they aren't as this process has found or left them: something else has written
-/// to the image. After a write of blocks the system begins to write them to the disk.
+/// to the image. After a write of blocks the system begins to write them to the disk, and while a long group is written also its pieces.
 #[derive(Drop)]
 pub struct ToldFile<'a, F: FileExt + OpenFile + AsRawFd + Drop, L: FileLines + Drop> {
     file: F,
@@ -176,6 +177,8 @@ impl<'a, F: FileExt + OpenFile + AsRawFd + Drop, L: FileLines + Drop> FileExt
                     copying.note_write(offset, *count);
                     if copying.is_in_data(offset) {
                         begin_writing(&self.file, offset, *count);
+                    } else if *count == MAX_PIECE {
+                        begin_writing_pieces(&self.file, offset);
                     }
                 }
             }
