@@ -139,7 +139,7 @@ made 'the calls of a check' ''
 # the piece before it and the first byte of this one aren't needed: so it begins to write both, and the sync has less to write.
 {
     request 0000 1 1 0 163840
-    filled 163840 A
+    differing 163840 1
     request 0000 3 2 0 0
     request 0000 2 3 0 0
 } >long
@@ -162,7 +162,7 @@ for fail in '' posix_fadvise; do
     is "a pipe of a long write${fail:+ whose advice is refused}" "0|$(reply 1 0)$(reply 2 0)|" "$status|$output|$errors"
     made "the calls of a long write${fail:+ whose advice is refused}" "$(printf '%s\n' "$long_calls" | sed "/^posix_fadvise/s/\$/${fail:+ failed}/")"
     is "after a long write${fail:+ whose advice is refused}" 'commands 1' "$(found)"
-    filled 163840 A >first_blocks
+    differing 163840 1 >first_blocks
     tail -c 262144 d.img | head -c 163840 >found_blocks
     same "the blocks of a long write${fail:+ whose advice is refused}" first_blocks found_blocks
 done

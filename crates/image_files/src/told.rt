@@ -26,7 +26,8 @@ impl FileLines for HostRuntime {
 /// A device's file of which the first call that fails is told, with what was tried and why it failed.
 ///
 /// A write into the header slots of an image fails if they aren't as this process has found or left them: something else has written
-/// to the image. After a write of blocks the system begins to write them to the disk, and while a long group is written also its pieces.
+/// to the image. After a write of blocks the system begins to write them to the disk, and so it does with the pieces of a long group or map
+/// while the rest is still written.
 #[derive(Drop)]
 pub struct ToldFile<'a, F: FileExt + OpenFile + AsRawFd + Drop, L: FileLines + Drop> {
     file: F,
@@ -132,7 +133,8 @@ impl<'a, F: FileExt + OpenFile + AsRawFd + Drop, L: FileLines + Drop> ToldFile<'
         }
     }
 
-    /// Has it tell how far an opening of an image of this geometry is, if that copies for long.
+    /// Has it tell how far an opening of an image of this geometry is, if that copies for long. From then on the system begins to write what
+    /// is written.
     pub fn tell_copying(&mut self, rt: &HostRuntime, geometry: &Geometry) {
         self.copying = Some(CopyProgress::new(rt, geometry));
     }
