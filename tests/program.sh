@@ -816,6 +816,14 @@ data=$((8192 + 2 * 2097152 + 2 * 4096))
 tail -c "+$((data + 1))" d.img >found
 same 'the blocks after the clears' wanted found
 
+# A written block, zeroes that keep their place, and a hole: two bits each, from the lowest on.
+fresh 16 2097152
+{ request 0000 1 1 0 4096; filled 4096 A; request 0002 6 2 4096 4096; request 0000 2 3 0 0; } >input
+ends 'data, zeroes and a hole' 0 "$(reply 1 0)$(reply 2 0)" '' pipe d.img
+: >input
+ends 'data, zeroes and a hole, recovered' 0 "$(text 'commands 2')" '' recover d.img
+is 'the map of data, zeroes and a hole' 06000000 "$(part d.img $((8192 + 2 * 2097152 + 4096)) 4)"
+
 # Requests of any bytes, in one stream, and READs after an opening. A write of bytes 4,000 to 4,199 is a put of blocks 0 and 1. Zeroes over bytes
 # 100 to 8,291 of three data blocks clear the block between, and leave both edges data. The first trim covers no whole block, and has a number too.
 fresh 16 2097152
@@ -1027,6 +1035,29 @@ while read -r area layout commands; do
 done <<'ROWS'
 16M . 315
 8M layout2 313
+ROWS
+
+# An area of 2 MiB is filled to its last byte: a group's body of 2,097,134 bytes fits, the last byte of the area is the next gate, and nothing
+# more fits. Of commands with a byte more the last one stays pending.
+filled() {
+    awk -v second="$1" -v clears="$2" 'function ask(what) { print "send 1 " what; print "serve 1"; print "answer 1" }
+        BEGIN {
+            print "format 256 2097152 512"
+            ask("put 0 256 41")
+            ask("put 0 " second " 42")
+            for (k = 0; k < clears; k++) ask("clear hole 0 1")
+            print "seal"; print "append"; print "publish"
+            ask("clear hole 1 1")
+            print "seal"; print "append"; print "crash 00"
+        }'
+}
+while read -r second clears commands; do
+    filled "$second" "$clears" >input
+    run rehearse
+    is "an area with puts of 256 and $second blocks and $clears clears" "0|$(printf 'done\nheld\nopened %s' "$commands")|" "$status|$(grep -B 2 '^opened' output)|$errors"
+done <<'ROWS'
+251 1572 1574
+252 1257 1258
 ROWS
 
 # Second lines of a script that are no step, and first lines that are no format.

@@ -93,6 +93,14 @@ REQUESTS = [
      of(reply(26), "668e33ef 0001 0001 000000000000001b 00000009 0000000000000fff 41")),
     ("a trim of a block and a byte, and the block written again", request(TRIM, 28, 0, 4097) + request(READ, 29, 4095, 2) + FIRST,
      of(reply(28), "668e33ef 0001 0002 000000000000001d 0000000c 0000000000000fff 00000002", reply(1))),
+    ("the states of data, zeroes and a hole, and the first of them",
+     request(ZEROES, 5, BLOCK, BLOCK, NO_HOLE) + request(STATUS, 6, 0, 12288) + request(STATUS, 7, 0, 12288, REQ_ONE),
+     of(reply(5), "668e33ef 0001 0005 0000000000000006 0000001c 00000001 00001000 00000000 00001000 00000002 00001000 00000003",
+        "668e33ef 0001 0005 0000000000000007 0000000c 00000001 00001000 00000000")),
+    ("a read of a block of data and a hole, and the same as one chunk", request(READ, 10, 0, 8192) + request(READ, 10, 0, 8192, DF),
+     of("668e33ef 0000 0001 000000000000000a 00001008 0000000000000000", b"A" * BLOCK,
+        "668e33ef 0001 0002 000000000000000a 0000000c 0000000000001000 00001000",
+        "668e33ef 0001 0001 000000000000000a 00002008 0000000000000000", b"A" * BLOCK, bytes(BLOCK))),
     ("a read of a hole", request(READ, 31, 8192, BLOCK), of("668e33ef 0001 0002 000000000000001f 0000000c 0000000000002000 00001000")),
     ("a flush of a block", request(FLUSH, 32, BLOCK, 0) + request(FLUSH, 33, 0, BLOCK), of(reply(32, 22), reply(33, 22))),
 ]
@@ -138,6 +146,8 @@ def requests(folder):
 
 def nothing(folder):
     with serve_new(folder, "nothing", 16) as path:
+        hole = of("668e33ef 0001 0002 0000000000000007 0000000c 0000000000000000 00001000")
+        check_stream("a read of a new image", connect_structured, path, request(READ, 7, 0, BLOCK), hole)
         for name, sent, wanted in NOTHING:
             check_stream(name, connect_structured, path, sent, wanted)
 
@@ -219,6 +229,18 @@ def lengths(folder):
             check(f"another magic number at {place}", reply(7), answers(connect_structured, path, [sent], 16))
 
 
+def runs(folder):
+    """Of an image in which every second block is data BLOCK_STATUS tells 1,024 runs, each of a block, and with REQ_ONE one."""
+    with serve_new(folder, "runs", 2050, "--frames", "4096") as path, connect_structured(path) as client:
+        for block in range(0, 2050, 2):
+            client.sendall(request(WRITE, block, block * BLOCK, BLOCK) + b"A" * BLOCK)
+        check("the blocks are written", b"".join(reply(block) for block in range(0, 2050, 2)), checks.take(client, 1025 * 16))
+        client.sendall(request(STATUS, 1, 0, 2050 * BLOCK) + request(STATUS, 2, 0, 2050 * BLOCK, REQ_ONE))
+        told = b"".join(struct.pack(">II", BLOCK, 0 if block % 2 == 0 else 3) for block in range(1024))
+        wanted = of("668e33ef 0001 0005 0000000000000001 00002004 00000001", told, "668e33ef 0001 0005 0000000000000002 0000000c 00000001 00001000 00000000")
+        check("the states of 2,050 blocks", True, checks.take(client, len(wanted)) == wanted)
+
+
 def buffers(folder):
     """READs whose lengths rise and fall, on two connections, with other requests between them. A short READ takes the buffer of the one before it."""
     blocks, lengths = 64, (1, BLOCK, 512, 65535, 65536, 65537, BLOCK - 1, 3, 2 * 65536, 100, BLOCK + 1, 2)
@@ -288,4 +310,4 @@ def ordered(folder):
 
 
 if __name__ == "__main__":
-    sys.exit(checks.run_scenarios((requests, nothing, beginnings, by_turns, flags, lengths, buffers, data, unread, ordered)))
+    sys.exit(checks.run_scenarios((requests, nothing, beginnings, by_turns, flags, lengths, runs, buffers, data, unread, ordered)))

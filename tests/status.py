@@ -414,7 +414,33 @@ def unopened(folder):
     check("unopened: the messages", (1, "", f"nbdj: {path}: No such file or directory (os error 2)\nnbdj: stream fault (21)\n"), found)
 
 
-SCENARIOS = (known, requests_of_others, mutated, silent, slow, faulty, stored, stored_slowly, stored_by_a_device_that_fails, unopened)
+def largest(folder):
+    """An image of 2^24 blocks, all holes: a WRITE makes a frame dirty, a TRIM of all that a request can name none, and the states of 2 GiB
+    are one run."""
+    image, path, status = (os.path.join(folder, f"largest.{kind}") for kind in ("img", "sock", "status"))
+    try:
+        format_image(image, "--blocks", str(1 << 24), "--area", "2097152")
+    except subprocess.CalledProcessError:
+        print("largest: skipped, because the file system allows no file of 64 GiB with holes")
+        return
+    with checks.serve(image, "--unix", path, "--status", status, "--flush-interval", "0") as server:
+        try:
+            check("largest: it listens", path, checks.read_address(server))
+            with connect(path) as client:
+                checks.shake(client, checks.LONG_HANDSHAKE)
+                check("largest: a write", reply(1), write(client, 1, 5 * BLOCK, b"A" * BLOCK))
+                check("largest: a dirty frame", (1, 1), (figures(status)["accepted_number"], figures(status)["frames"]["dirty"]))
+                check("largest: a trim", reply(2), send(client, TRIM, 2, 0, 1048575 * BLOCK))
+                check("largest: no dirty frame", (2, 0), (figures(status)["accepted_number"], figures(status)["frames"]["dirty"]))
+                client.sendall(request(checks.STATUS, 3, 0, 524288 * BLOCK))
+                check("largest: the states", "668e33ef000100050000000000000003 0000000c000000018000000000000003",
+                      take(client, 32).hex(" ", -16))
+        finally:
+            server.kill()
+    os.unlink(image)
+
+
+SCENARIOS = (largest, known, requests_of_others, mutated, silent, slow, faulty, stored, stored_slowly, stored_by_a_device_that_fails, unopened)
 
 if __name__ == "__main__":
     sys.exit(checks.run_scenarios(SCENARIOS))
