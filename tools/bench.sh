@@ -12,9 +12,12 @@
 #    areas, and nbdkit's file plugin, each limited to 256 MiB of memory with its page cache. It needs root and the memory controller of cgroups.
 # 6. How long single requests take: nbdj and nbdkit's file plugin.
 # 7. How much memory each server has after its start, after a load, and a minute later.
+# 8. ONE connection, as a guest has it: nbdj as the guide serves it (`format --size`), nbdkit's file plugin with its usual threads
+#    and with one, and qemu-nbd. READs beside a WRITE with FLUSH, with the times of syncs of the third table; FUA writes in flight; QEMU's own load;
+#    and READs over a page cache that was dropped, which needs root.
 #
 # TABLES (servers syncs filling) says which are made: servers the first two, syncs the third, filling the fourth, sustained the fifth, tails the
-# sixth, memory the seventh.
+# sixth, memory the seventh, one the eighth.
 # It needs cc and Debian's libnbd-dev, nbdkit and qemu-utils. Each server is measured ROUNDS (1) times, and the medians are printed. A measurement
 # takes BENCH_SECONDS (4); then each client waits for answers that are due. The images are in BENCH_FOLDER, by default TMPDIR.
 set -eu
@@ -52,6 +55,8 @@ command_of() {
     layout*) echo "$NBDJ serve $1.img --unix $1.sock --workers 16 --frames 16384" ;;
     small*) echo "$NBDJ serve $1.img --unix $1.sock --workers 16 --frames 4096" ;;
     large*) echo "$NBDJ serve $1.img --unix $1.sock --workers 16 --frames 32768" ;;
+    guest) echo "$NBDJ serve guest.img --unix guest.sock" ;;
+    single) echo 'nbdkit -t 1 -f -U single.sock file single.img' ;;
     peer*) echo "nbdkit -f -U $1.sock file $1.img" ;;
     nbdj) echo "$NBDJ serve nbdj.img --unix nbdj.sock --workers 16 --frames $frames" ;;
     nbdkit) echo 'nbdkit -f -U nbdkit.sock file nbdkit.img' ;;
@@ -354,12 +359,88 @@ measure_memory() {
     done
 }
 
+# took FILE ARGUMENTS..: the seconds of a run of QEMU's own load
+took() {
+    file=$1
+    shift
+    began=$(date +%s.%N)
+    timeout 100 qemu-img bench -q -f raw "$@" >/dev/null
+    echo "$began $(date +%s.%N)" | awk '{ printf "%.3f\n", $2 - $1 }' >>"$file"
+}
+
+# guests TEXT FILE FIELD BEST: a line of the eighth table; BEST is max where more is better, or min
+guests() {
+    for it in guest nbdkit single qemu; do part "$it.$2" "$3"; done | paste -s -d '|' | awk -F '|' -v what="$1" -v way="$4" '{
+        best = $2
+        for (k = 3; k <= 4; k++) {
+            is_better = way == "max" ? ($k + 0 > best + 0) : ($k + 0 < best + 0)
+            if (is_better) best = $k
+        }
+        printf "| %s | %s | %s | %s | %s | %.2f |\n", what, $1, $2, $3, $4, (best + 0 ? $1 / best : 0)
+    }'
+}
+
+# One connection. Each server is started again for each time of a sync, in each round.
+measure_one() {
+    all='guest nbdkit single qemu'
+    "$NBDJ" format guest.img --size $((blocks * 4096)) >/dev/null
+    truncate -s $((blocks * 4096)) single.img
+    for it in $all; do
+        serve $it
+        fill $it $blocks
+        stop
+    done
+    slow_syncs=${SLOW_SYNCS:-0 1000 5000}
+    round=0
+    while [ $round -lt "$rounds" ]; do
+        for it in $all; do
+            uri="nbd+unix:///?socket=$folder/$it.sock"
+            for us in $slow_syncs; do
+                slowly="SLOW_SYNC_US=$us LD_PRELOAD=$folder/slow_sync.so"
+                serve $it
+                for writers in 0 1 4; do timeout 100 ./client one "$uri" 4 $writers "$seconds" $blocks >>"$it.$us.one.$writers"; done
+                measure $it fua-16 1 $blocks >>"$it.$us.fua"
+                stop
+            done
+            slowly=''
+            serve $it
+            took "$it.long" -w -c 8000 -d 8 -s 65536 -S 131072 --flush-interval=32 --no-drain "$uri"
+            took "$it.short" -w -c 10000 -d 16 -s 4096 -S 69632 --flush-interval=16 --no-drain "$uri"
+            stop
+            for kind in read any-64k; do
+                serve $it
+                sync
+                echo 3 >/proc/sys/vm/drop_caches
+                measure $it $kind 1 $blocks >>"$it.cold.$kind"
+                stop
+            done
+        done
+        round=$((round + 1))
+    done
+
+    echo
+    echo '| One connection | nbdj | nbdkit file | nbdkit -t 1 | qemu-nbd | nbdj to the best |'
+    echo '|---|---|---|---|---|---|'
+    for us in $slow_syncs; do
+        for writers in 0 1 4; do
+            guests "syncs +$us us: 4 READs beside $writers that write and flush, READs a second" "$us.one.$writers" 1 max
+            guests "the same, p99 of a READ, us" "$us.one.$writers" 3 min
+            [ $writers = 0 ] || guests 'the same, WRITEs with their FLUSH a second' "$us.one.$writers" 5 max
+        done
+        guests "syncs +$us us: FUA writes, 16 in flight, a second" "$us.fua" 1 max
+    done
+    guests '64 KiB writes, 8 in flight, a FLUSH each 32 (qemu-img bench), seconds' long 1 min
+    guests '4 KiB writes, 16 in flight, a FLUSH each 16 (qemu-img bench), seconds' short 1 min
+    guests 'cold READs of 4 KiB at random, 16 in flight, a second' cold.read 1 max
+    guests 'cold READs of 64 KiB at random, 16 in flight, a second' cold.any-64k 1 max
+}
+
 echo "$(uname -sr), $(nproc) processors, load $(cut -d ' ' -f 1-3 /proc/loadavg), images on $(df -T "$folder" | awk 'NR == 2 { print $2 }');"
 echo "$("$NBDJ" --version), $(nbdkit --version), $(qemu-nbd --version | head -n 1), libnbd $(nbdinfo --version | sed -n 's/^nbdinfo //p');"
 echo "$rounds rounds of $seconds s, an image of $((blocks / 256)) MiB."
 for table in ${TABLES:-servers syncs filling}; do
     case $table in
-    servers | syncs | filling | sustained | tails | memory) measure_$table ;;
+    servers | syncs | filling | sustained | tails | memory | one) measure_$table ;;
     *) echo "bench: there is no table $table" >&2; exit 2 ;;
     esac
 done

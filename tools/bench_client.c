@@ -7,10 +7,12 @@
  *         write      4 KiB at random places, 16 in flight on each connection
  *         flushed    4 KiB at random places, each followed by a FLUSH, one after another
  *         fua        4 KiB at random places with FUA, one after another
+ *         fua-16     the same, 16 in flight
  *         sequential all blocks once in order, 1 MiB at a time, 4 in flight, and a FLUSH at the end, which counts: however long it takes
  *         read       4 KiB at random places, 16 in flight
  *         read-long  1 MiB at a time in order, 4 in flight
  *         read-64k   64 KiB at a time in order, 4 in flight
+ *         any-64k    64 KiB at random places, 16 in flight
  *         mixed      4 KiB at random places, 7 of 10 read and the others written, 16 in flight
  *         write-512  512 bytes at random places, 16 in flight
  *         read-512   the same, read
@@ -22,6 +24,10 @@
  * bench_client beside URI LENGTH FLUSHERS SECONDS BLOCKS
  *     Sends READs of LENGTH bytes at random places, one after another, while FLUSHERS connections write and flush as `flushed` does. Prints the rate
  *     of READs, the median, 99th percentile and longest of their times, and the rate of FLUSHes.
+ * bench_client one URI READERS WRITERS SECONDS BLOCKS
+ *     Over ONE connection, as a guest has it: READERS READs of 4 KiB at random places in flight, each followed by another, and WRITERS times a WRITE
+ *     of 4 KiB and then a FLUSH. Prints the rate of READs, the median, 99th percentile and longest of their times, the rate of WRITEs with their
+ *     FLUSH, and the median of their times.
  * bench_client stall URI SECONDS BLOCKS
  *     4 connections write as `write` does, one writes and flushes as `flushed` does, and one reads 4 KiB, one after another. Prints the rate of
  *     WRITEs, the longest time of one, and the 99th percentiles of a write with FLUSH and of a READ.
@@ -63,14 +69,24 @@ static const struct kind kinds[] = {
     {"write", SECTORS, 16, 0, 1, 0, 0, 0, 0},
     {"flushed", SECTORS, 1, 0, 1, 1, 0, 0, 0},
     {"fua", SECTORS, 1, 0, 1, 0, 1, 0, 0},
+    {"fua-16", SECTORS, 16, 0, 1, 0, 1, 0, 0},
     {"sequential", LONG_BLOCKS * SECTORS, 4, 0, 0, 0, 0, 1, 0},
     {"read", SECTORS, 16, 1, 1, 0, 0, 0, 0},
     {"read-long", LONG_BLOCKS * SECTORS, 4, 1, 0, 0, 0, 0, 0},
     {"read-64k", 16 * SECTORS, 4, 1, 0, 0, 0, 0, 0},
+    {"any-64k", 16 * SECTORS, 16, 1, 1, 0, 0, 0, 0},
     {"mixed", SECTORS, 16, 0, 1, 0, 0, 0, 1},
     {"write-512", 1, 16, 0, 1, 0, 0, 0, 0},
     {"read-512", 1, 16, 1, 1, 0, 0, 0, 0},
 };
+
+/* The kind of this name, or NULL. */
+static const struct kind *kind_of(const char *name) {
+    for (size_t k = 0; k < sizeof kinds / sizeof kinds[0]; k++) {
+        if (strcmp(kinds[k].name, name) == 0) return &kinds[k];
+    }
+    return NULL;
+}
 
 static size_t length_of(const struct kind *kind) { return (size_t)kind->sectors * SECTOR; }
 
@@ -151,7 +167,7 @@ static void ask(struct connection *it, struct slot *slot) {
         cookie = nbd_aio_pread(it->nbd, slot->data, length, place(it), done, 0);
     } else {
         mark(it, slot->data);
-        cookie = nbd_aio_pwrite(it->nbd, slot->data, length, place(it), done, 0);
+        cookie = nbd_aio_pwrite(it->nbd, slot->data, length, place(it), done, it->kind->has_fua ? LIBNBD_CMD_FLAG_FUA : 0);
     }
     if (cookie == -1) fail("a request");
 }
@@ -187,9 +203,11 @@ static void ask_in_turn(struct connection *it) {
     }
 }
 
+static int is_in_turn(const struct kind *kind) { return kind->flushes || (kind->has_fua && kind->depth == 1); }
+
 static void *serve_thread(void *data) {
     struct connection *it = data;
-    if (it->kind->flushes || it->kind->has_fua) {
+    if (is_in_turn(it->kind)) {
         ask_in_turn(it);
     } else {
         ask_many(it);
@@ -241,7 +259,7 @@ static void print_waits(double *times, size_t count) {
 static void keep_times(struct connection *it) {
     double *kept = malloc(MOST_TIMES * sizeof *kept);
     if (!kept) fail("memory");
-    if (it->kind->flushes || it->kind->has_fua) {
+    if (is_in_turn(it->kind)) {
         it->times = kept;
     } else {
         it->taken = kept;
@@ -265,10 +283,7 @@ static void print_times(struct connection *connections, unsigned count) {
 
 static void run(const char *uri, const char *name, unsigned count, double seconds, uint64_t blocks, int is_timed) {
     static struct connection connections[MOST_CONNECTIONS];
-    const struct kind *kind = NULL;
-    for (size_t k = 0; k < sizeof kinds / sizeof kinds[0]; k++) {
-        if (strcmp(kinds[k].name, name) == 0) kind = &kinds[k];
-    }
+    const struct kind *kind = kind_of(name);
     if (!kind || count == 0 || count > MOST_CONNECTIONS || blocks < LONG_BLOCKS) {
         fprintf(stderr, "bench_client: no such run\n");
         exit(2);
@@ -294,7 +309,7 @@ static void run(const char *uri, const char *name, unsigned count, double second
 static void fill(const char *uri, uint64_t blocks, uint64_t piece) {
     struct connection it;
     if (piece == 0 || piece > LONG_BLOCKS) fail("a piece");
-    prepare(&it, uri, &kinds[3], 0, blocks);
+    prepare(&it, uri, kind_of("sequential"), 0, blocks);
     for (uint64_t at = 0; at + piece <= blocks; at += piece) {
         mark(&it, it.slots[0].data);
         if (nbd_pwrite(it.nbd, it.slots[0].data, (size_t)piece * BLOCK, at * BLOCK, 0) == -1) fail("a write");
@@ -313,8 +328,8 @@ static void beside(const char *uri, unsigned length, unsigned flushers, double s
         fprintf(stderr, "bench_client: no such run\n");
         exit(2);
     }
-    for (unsigned k = 0; k < flushers; k++) prepare(&connections[k], uri, &kinds[1], k, blocks);
-    prepare(&reader, uri, &kinds[4], MOST_CONNECTIONS, blocks);
+    for (unsigned k = 0; k < flushers; k++) prepare(&connections[k], uri, kind_of("flushed"), k, blocks);
+    prepare(&reader, uri, kind_of("read"), MOST_CONNECTIONS, blocks);
     double begun = now();
     for (unsigned k = 0; k < flushers; k++) begin(&connections[k], begun + seconds);
     for (double from = now(); from < begun + seconds && answered < MOST_TIMES; answered++) {
@@ -338,6 +353,87 @@ static void beside(const char *uri, unsigned length, unsigned flushers, double s
     free(data);
 }
 
+enum step { READS, WRITES, FLUSHES };
+
+/* One of several loops over one connection. */
+struct loop {
+    enum step step;
+    double begun, *times;
+    size_t count;
+    char data[BLOCK];
+    int is_busy;
+};
+
+static int ended(void *data, int *error) {
+    struct loop *loop = data;
+    if (*error) {
+        errno = *error;
+        fail("an answer");
+    }
+    loop->is_busy = 0;
+    if (loop->step == WRITES) {
+        loop->step = FLUSHES;
+        return 1;
+    }
+    if (loop->count < MOST_TIMES) loop->times[loop->count++] = now() - loop->begun;
+    if (loop->step == FLUSHES) loop->step = WRITES;
+    return 1;
+}
+
+static void go_on(struct connection *it, struct loop *loop) {
+    nbd_completion_callback done = {.callback = ended, .user_data = loop};
+    int64_t cookie;
+    loop->is_busy = 1;
+    if (loop->step != FLUSHES) loop->begun = now();
+    if (loop->step == READS) {
+        cookie = nbd_aio_pread(it->nbd, loop->data, BLOCK, place(it), done, 0);
+    } else if (loop->step == WRITES) {
+        mark(it, loop->data);
+        cookie = nbd_aio_pwrite(it->nbd, loop->data, BLOCK, place(it), done, 0);
+    } else {
+        cookie = nbd_aio_flush(it->nbd, done, 0);
+    }
+    if (cookie == -1) fail("a request");
+}
+
+static void one(const char *uri, unsigned readers, unsigned writers, double seconds, uint64_t blocks) {
+    static struct loop loops[MOST_CONNECTIONS];
+    static struct connection it;
+    double *reads = malloc(MOST_TIMES * sizeof *reads), *writes = malloc(MOST_TIMES * sizeof *writes);
+    size_t read = 0, written = 0;
+    unsigned busy = 1;
+    if (readers + writers == 0 || readers + writers > MOST_CONNECTIONS || !reads || !writes) fail("loops");
+    prepare(&it, uri, kind_of("write"), 0, blocks);
+    for (unsigned k = 0; k < readers + writers; k++) {
+        loops[k].step = k < readers ? READS : WRITES;
+        loops[k].times = malloc(MOST_TIMES * sizeof *reads);
+        if (!loops[k].times) fail("memory");
+    }
+    double begun = now();
+    while (busy) {
+        busy = 0;
+        for (unsigned k = 0; k < readers + writers; k++) {
+            if (!loops[k].is_busy && now() < begun + seconds) go_on(&it, &loops[k]);
+            busy += loops[k].is_busy;
+        }
+        if (busy && nbd_poll(it.nbd, -1) == -1) fail("poll");
+    }
+    double took = now() - begun;
+    for (unsigned k = 0; k < readers + writers; k++) {
+        double *into = k < readers ? reads : writes;
+        size_t *count = k < readers ? &read : &written;
+        for (size_t n = 0; n < loops[k].count && *count < MOST_TIMES; n++) into[(*count)++] = loops[k].times[n];
+        free(loops[k].times);
+    }
+    finish(&it);
+    qsort(reads, read, sizeof *reads, longer);
+    qsort(writes, written, sizeof *writes, longer);
+    printf("%.0f %.0f %.0f %.0f %.0f %.0f\n", read / took, read ? reads[read / 2] * 1e6 : 0, read ? reads[read * 99 / 100] * 1e6 : 0,
+           read ? reads[read - 1] * 1e6 : 0, written / took, written ? writes[written / 2] * 1e6 : 0);
+    free(reads);
+    free(writes);
+}
+
 #define WRITERS 4
 
 static void stall(const char *uri, double seconds, uint64_t blocks) {
@@ -347,9 +443,9 @@ static void stall(const char *uri, double seconds, uint64_t blocks) {
     size_t read = 0;
     uint64_t written = 0;
     double longest = 0;
-    for (unsigned k = 0; k < WRITERS; k++) prepare(&connections[k], uri, &kinds[0], k, blocks);
-    prepare(&flusher, uri, &kinds[1], WRITERS, blocks);
-    prepare(&reader, uri, &kinds[4], WRITERS + 1, blocks);
+    for (unsigned k = 0; k < WRITERS; k++) prepare(&connections[k], uri, kind_of("write"), k, blocks);
+    prepare(&flusher, uri, kind_of("flushed"), WRITERS, blocks);
+    prepare(&reader, uri, kind_of("read"), WRITERS + 1, blocks);
     flusher.times = malloc(MOST_TIMES * sizeof *times);
     if (!times || !flusher.times) fail("memory");
     double begun = now();
@@ -384,11 +480,11 @@ static void waits(const char *uri, double seconds, uint64_t blocks) {
     size_t written = 0;
     if (!times) fail("memory");
     for (unsigned k = 0; k < WRITERS; k++) {
-        prepare(&connections[k], uri, &kinds[0], k, blocks);
+        prepare(&connections[k], uri, kind_of("write"), k, blocks);
         connections[k].taken = malloc(MOST_TIMES * sizeof *times);
         if (!connections[k].taken) fail("memory");
     }
-    prepare(&flusher, uri, &kinds[1], WRITERS, blocks);
+    prepare(&flusher, uri, kind_of("flushed"), WRITERS, blocks);
     flusher.times = malloc(MOST_TIMES * sizeof *times);
     if (!flusher.times) fail("memory");
     double begun = now();
@@ -468,6 +564,8 @@ int main(int argc, char **argv) {
         fill(argv[2], strtoull(argv[3], NULL, 10), argc == 5 ? strtoull(argv[4], NULL, 10) : LONG_BLOCKS);
     } else if (argc == 7 && strcmp(argv[1], "beside") == 0) {
         beside(argv[2], (unsigned)atoi(argv[3]), (unsigned)atoi(argv[4]), atof(argv[5]), strtoull(argv[6], NULL, 10));
+    } else if (argc == 7 && strcmp(argv[1], "one") == 0) {
+        one(argv[2], (unsigned)atoi(argv[3]), (unsigned)atoi(argv[4]), atof(argv[5]), strtoull(argv[6], NULL, 10));
     } else if (argc == 5 && strcmp(argv[1], "stall") == 0) {
         stall(argv[2], atof(argv[3]), strtoull(argv[4], NULL, 10));
     } else if (argc == 5 && strcmp(argv[1], "waits") == 0) {
