@@ -12,8 +12,8 @@
 - The completion for bash, packaging/nbdj.bash, has the commands of the man page.
 - Each wrong body, in crates/CRATE/must-fail/, wrong-bodies/CRATE/ and wrong-bodies/by-test/, changes texts that stand once in the crate's
   sources; those for a test name one.
-- docs/DESIGN.md has the table of crates that tools/crate-table makes of crates.txt, and docs/ASSURANCE.md the tables of definitions that
-  tools/headline-definitions makes of the sources.
+- docs/DESIGN.md has the table of crates that tools/crate-table makes of crates.txt, and docs/ASSURANCE.md the tables of definitions and of
+  functions that tools/headline-definitions and tools/functions-without-clauses make of the sources.
 - The charts of docs/PERFORMANCE.md are those that tools/chart makes of its tables.
 - Files of crates that documents name exist, and so do the targets of links between documents.
 - Prose wraps at 100 columns.
@@ -216,6 +216,11 @@ def check_headline():
     check("the definitions of the guarantee", wanted, [it.rstrip("\n") for it in found])
 
 
+def check_functions():
+    wanted = subprocess.run([f"{TOP}/tools/functions-without-clauses"], capture_output=True, text=True, check=True).stdout
+    check("the functions without a clause", True, f"\n{wanted}" in read(f"{TOP}/docs/ASSURANCE.md"))
+
+
 def check_charts():
     for heading, name in {"A server": "speed", "Without flushes": "ordered"}.items():
         wanted = subprocess.run([f"{TOP}/tools/chart", heading], capture_output=True, text=True).stdout
@@ -295,6 +300,7 @@ def main():
     check_script_pages()
     check_design()
     check_headline()
+    check_functions()
     check_charts()
     check_files()
     check_links()
