@@ -1039,7 +1039,7 @@ ROWS
 
 # An area of 2 MiB is filled to its last byte: a group's body of 2,097,134 bytes fits, the last byte of the area is the next gate, and nothing
 # more fits. Of commands with a byte more the last one stays pending.
-filled() {
+filled_area() {
     awk -v second="$1" -v clears="$2" 'function ask(what) { print "send 1 " what; print "serve 1"; print "answer 1" }
         BEGIN {
             print "format 256 2097152 512"
@@ -1052,7 +1052,7 @@ filled() {
         }'
 }
 while read -r second clears commands; do
-    filled "$second" "$clears" >input
+    filled_area "$second" "$clears" >input
     run rehearse
     is "an area with puts of 256 and $second blocks and $clears clears" "0|$(printf 'done\nheld\nopened %s' "$commands")|" "$status|$(grep -B 2 '^opened' output)|$errors"
 done <<'ROWS'
