@@ -407,6 +407,13 @@ measure_one() {
             took "$it.long" -w -c 8000 -d 8 -s 65536 -S 131072 --flush-interval=32 --no-drain "$uri"
             took "$it.short" -w -c 10000 -d 16 -s 4096 -S 69632 --flush-interval=16 --no-drain "$uri"
             stop
+        done
+        round=$((round + 1))
+    done
+    # (only now, because every later measurement would begin with a cold page cache)
+    round=0
+    while [ $round -lt "$rounds" ]; do
+        for it in $all; do
             for kind in read any-64k; do
                 serve $it
                 sync
