@@ -112,3 +112,5 @@ pub record IsSound (extent : ℕ) (state : State) : Type 0 where
   pub counts_now : (moment : ℕ) (content : List ℕ) → moment ≤ state.moment → MayLeave state content → state.left_since moment content
   -- from the present moment on there is no other
   pub only_now : (content : List ℕ) → state.left_since state.moment content → MayLeave state content
+  -- what a crash since a later moment may have left, it may have left since an earlier one
+  pub falls : (earlier later : ℕ) (content : List ℕ) → earlier ≤ later → later ≤ state.moment → state.left_since later content → state.left_since earlier content

@@ -1,6 +1,7 @@
 pub mod Disk
 pub mod FaultPlan
 pub mod Faults
+pub mod FileCall
 pub mod FileDisk
 pub mod History
 pub mod HistoryLaws

@@ -1,4 +1,4 @@
-ghost use Rattle.std.specs.Prelude.{◌≡◌, ◌^◌, ◌<◌, ◌+◌, length};
+ghost use Rattle.std.specs.Prelude.{◌≡◌, ◌^◌, ◌<◌, ◌+◌, length, refl};
 
 use crate::disk::{DeviceFault, Disk};
 use crate::faults::outcome;
@@ -28,15 +28,23 @@ fn write_pieces<F: FileExt>(file: &F, offset: u64, from: &[u8]) -> io::Result<()
     Ok(())
 }
 
+// The proofs alone use its value, which other crates can't name: see `specs/FileCall.antt`.
+enum Seal {
+    Whole,
+}
+
 /// A device over the first bytes of a file. Short reads and writes are finished. A read that the system does whole is one call of it, a
 /// write one for each piece of 32 KiB, and a sync brings the data to the drive (`fdatasync`).
 ///
-/// Nothing is claimed of the content: its `honest` can't be met. A read past the end of a shorter file is a fault.
+/// `honest` says that the file keeps to the disk model. No proof can support that: it is a premise of each clause on
+/// content. A read past the end of a shorter file is a fault.
 #[derive(Drop)]
 pub struct FileDisk<F: FileExt + OpenFile> {
     file: F,
     size: u64,
     failures: u64,
+    // In the proofs the state of a file is a function of the device's value, so each call has to change it.
+    calls: u64,
     ghost size_fits: { size < 2 ^ 64 },
     ghost failures_fit: { failures < 2 ^ 64 },
 }
@@ -54,6 +62,7 @@ impl<F: FileExt + OpenFile> FileDisk<F> {
             file,
             size,
             failures: 0,
+            calls: 0,
         }
     }
 
@@ -69,30 +78,32 @@ impl<F: FileExt + OpenFile> FileDisk<F> {
 }
 
 impl<F: FileExt + OpenFile> Disk for FileDisk<F> {
-    ghost use Rattle.disk_model.specs.FileDisk.{unknown};
+    ghost use Rattle.disk_model.specs.FileDisk.{KeepsToModel, state_at};
 
     ghost extent = { λ disk. disk.size };
 
     ghost faults = { λ disk. disk.failures };
 
-    // Nothing is claimed of what a file holds.
-    ghost honest = { λ disk. ⊥ };
+    ghost honest = { λ disk. KeepsToModel disk.file disk.size };
 
-    ghost state = { λ disk. unknown };
+    ghost state = { λ disk. state_at disk };
 
     fn size(&self) -> u64 {
         self.size
     }
 
     fn read(&mut self, offset: u64, into: &mut [u8]) -> Result<(), DeviceFault> {
+        self.calls = self.calls.wrapping_add(1);
         outcome(self.file.read_exact_at(into, offset), &mut self.failures)
     }
 
     fn write_at(&mut self, offset: u64, from: &[u8]) -> Result<(), DeviceFault> {
+        self.calls = self.calls.wrapping_add(1);
         outcome(write_pieces(&self.file, offset, from), &mut self.failures)
     }
 
     fn sync(&mut self) -> Result<(), DeviceFault> {
+        self.calls = self.calls.wrapping_add(1);
         outcome(self.file.sync_data(), &mut self.failures)
     }
 
@@ -104,5 +115,5 @@ impl<F: FileExt + OpenFile> Disk for FileDisk<F> {
 
     ghost faults_fit = { λ disk. disk.failures_fit };
 
-    ghost sound = { λ disk honest. absurd honest };
+    ghost sound = { λ disk honest. honest.sound disk refl refl };
 }

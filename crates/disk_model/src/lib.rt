@@ -2,8 +2,8 @@
 //!
 //! [`Disk`] is what the layers above know of a device. Beside its calls it has ghost members: `state` says what a read
 //! gives and what a crash may leave, now and since an earlier moment, and clauses on it hold where `honest` does.
-//! [`SimDisk`] is a device in memory that keeps to all of it, and that is proved. [`FileDisk`] works on a file, and
-//! claims nothing of its content. [`write_synced`] is a write and a sync.
+//! [`SimDisk`] is a device in memory that keeps to all of it, and that is proved. [`FileDisk`] works on a file: that the
+//! file keeps to it is a premise, which can't be proved or refuted. [`write_synced`] is a write and a sync.
 //!
 //! Five things to know:
 //!

@@ -124,7 +124,7 @@ impl ScramblingDisk {
 }
 
 impl Disk for ScramblingDisk {
-    ghost use Rattle.disk_model.specs.FileDisk.{unknown};
+    ghost use Rattle.storage_tests.specs.Scrambling.{unknown};
     ghost use Rattle.std.specs.Prelude.{length};
 
     ghost extent = { λ disk. length disk.places.items };

@@ -155,3 +155,25 @@ fn failed_calls_of_an_append(rt: HostRuntime) -> Result<(), Fail> {
     }
     Ok(())
 }
+
+// The commands of a group that was stored, and the memory of its bytes, are handed out once; memory that is given back is
+// handed out again.
+#[test]
+fn memory_of_a_group_is_used_again(rt: HostRuntime) -> Result<(), Fail> {
+    let alloc = rt.alloc();
+    let mut disk = ScramblingDisk::new(alloc, AREA_BYTES as u64, 0)?;
+    let mut area = found(alloc, &mut disk)?;
+    if let Err((_fault, group)) = area.append(&mut disk, put(alloc, 1, 0x41)?) {
+        let _parts = group.into_parts();
+        return Err(Fail::from("no append"));
+    }
+    assert_eq!(rt; area.take_stored().len(), 1);
+    assert_eq!(rt; area.take_stored().len(), 0);
+    let buffer = area.take_buffer();
+    let room = buffer.capacity();
+    assert!(rt; room >= 4096);
+    assert_eq!(rt; area.take_buffer().capacity(), 0);
+    area.give_buffer(buffer);
+    assert_eq!(rt; area.take_buffer().capacity(), room);
+    Ok(())
+}

@@ -1,5 +1,5 @@
 -- an entry of what is unsynced is added
-use Rattle.std.specs.Prelude.{ℕ, ◌≡◌, ◌+◌, List, [], ◌∷◌, ◌++◌, length, take, drop}
+use Rattle.std.specs.Prelude.{ℕ, ◌≡◌, List, [], ◌∷◌, ◌++◌, length, take, drop}
 use Rattle.disk_model.specs.declared.history.Entry.{Entry}
 use Rattle.disk_model.specs.declared.history.Entry.TheVariants.{Written}
 use Rattle.disk_model.specs.declared.history.Write.{Write}
