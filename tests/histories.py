@@ -1,13 +1,15 @@
 #!/usr/bin/env python3
 """Whether ONE order explains what many clients of the built program NBDJ see, and what kills and power cuts leave.
 
-usage: tests/histories.py [--operations N] [--seed S] [--kills K] [--cache MODE] [--keep FOLDER] [--only-checker]
+usage: tests/histories.py [--operations N] [--seed S] [--kills K] [--cache MODE] [--in-flight N] [--keep FOLDER] [--only-checker]
 
 Twelve clients write, clear, flush and read a few blocks of one image. Half of them use TCP, half a Unix socket; half send one request at a time,
-half up to eight. Each WRITE puts a value of its own into each sector, so what a READ finds names the write. Then the server is killed (SIGKILL) or
+half up to eight, or up to 16 where the server works on as many at a time (`--in-flight 16`); then replies are matched by
+their cookies, each of which has to come once. Each WRITE puts a value of its own into each sector, so what a READ finds names the write. Then the server is killed (SIGKILL) or
 its power is cut: then any part of what it wrote since the last sync stays (tests/preloads/undo_calls.c). It starts again over the same image, and the clients go
 on. For each life of the server tests/history_checker.py decides from the requests, the answers, their times and what is left whether one order fits,
-as docs/ASSURANCE.md promises it. This is done for `writeback`, `writethrough` and `ordered`, each over an image of its own.
+as docs/ASSURANCE.md promises it. This is done for `writeback`, `writethrough` and `ordered`, each over images of its own, with one and with 16
+requests of a client in progress at a time.
 
 Not decided: the answers to BLOCK_STATUS, because no client asks; writes of parts of sectors, which other tests send; whether and how soon a request is
 answered. Times are those of this process, so an order that only the exact times of the server would exclude fits. A life for which neither an order
@@ -21,6 +23,7 @@ orders are tried; --only-checker does that alone. Prints a line for each check t
 import argparse
 import collections
 import contextlib
+import itertools
 import mmap
 import os
 import random
@@ -45,6 +48,8 @@ CELLS = range(LIVE * SECTORS)
 AREAS = {1: 2097152, 2: 4194304}
 CODES = {"READ": checks.READ, "WRITE": checks.WRITE, "FLUSH": checks.FLUSH, "TRIM": checks.TRIM, "WRITE_ZEROES": checks.ZEROES}
 CLIENTS, DEPTH, PER_LIFE, SECONDS = 12, 8, 400, 120
+# How many requests of a client the server works on at a time.
+IN_FLIGHT = (1, 16)
 MODES = {"writeback": 5, "writethrough": 2, "ordered": 3}
 # How often a client sends each kind: one that does everything, one that mostly writes, one that mostly reads.
 KINDS = ("READ", "filler", "WRITE", "WRITE_ZEROES", "TRIM", "FLUSH")
@@ -279,9 +284,10 @@ def cut(image, log, source):
 class Server:
     """A server of one image, which is started and killed again and again."""
 
-    def __init__(self, folder, mode, layout, source):
-        self.folder, self.mode, self.source = folder, mode, source
-        self.image, self.path, self.log = f"{folder}/{mode}.img", f"{folder}/{mode}", f"{folder}/{mode}.log"
+    def __init__(self, folder, mode, in_flight, layout, source):
+        self.folder, self.mode, self.in_flight, self.source = folder, mode, in_flight, source
+        name = f"{folder}/{mode}-{in_flight}"
+        self.image, self.path, self.log = f"{name}.img", name, f"{name}.log"
         self.process = self.port = None
         format_image(self.image, "--blocks", str(LIVE + FILLER), "--area", str(AREAS[layout]), "--layout", str(layout))
 
@@ -294,7 +300,7 @@ class Server:
         with contextlib.suppress(FileNotFoundError):
             os.unlink(self.log)
         environment = {**os.environ, "SLOW_SYNC_US": str(slow), "UNDO_IMAGE": self.image, "UNDO_LOG": self.log, "LD_PRELOAD": ":".join(preloads)}
-        words = ["--listen", "127.0.0.1:0", "--unix", self.path, "--workers", "16", "--frames", str(FRAMES)]
+        words = ["--listen", "127.0.0.1:0", "--unix", self.path, "--workers", "16", "--frames", str(FRAMES), "--in-flight", str(self.in_flight)]
         words += ["--cache", self.mode, "--flush-interval", source.choice(("0.02", "0.2", "1", "0")), *more]
         self.process = serve(self.image, *words, env=environment, stderr=subprocess.PIPE)
 
@@ -341,10 +347,11 @@ def ask(client, kind, offset=0, length=0, data=b""):
 class Client:
     """A client through all lives of a server, with a connection to the present one."""
 
-    def __init__(self, number, seed):
+    def __init__(self, number, in_flight, seed):
+        self.in_flight = in_flight
         self.number, self.source = number, random.Random(f"{seed} client {number}")
         self.by_tcp, self.habit = number % 2, HABITS[number // 4 % len(HABITS)]
-        self.depth = DEPTH if number % 4 < 2 else 1
+        self.depth = max(DEPTH, in_flight) if number % 4 < 2 else 1
         self.values = self.cookie = 0
 
     def connect(self, server, is_rare):
@@ -352,7 +359,7 @@ class Client:
         self.is_rare = is_rare
         self.socket = server.connect(self.by_tcp)
         self.socket.setblocking(False)
-        self.unsent, self.unread, self.waiting = bytearray(), bytearray(), collections.deque()
+        self.unsent, self.unread, self.waiting = bytearray(), bytearray(), {}
 
     def sectors(self):
         """First sector and count: mostly within a few of the first blocks, whole or in part; now and then many blocks."""
@@ -403,7 +410,7 @@ class Client:
         while len(self.waiting) < self.depth:
             command, text = self.draw()
             history.append(command)
-            self.waiting.append((command, self.cookie))
+            self.waiting[self.cookie] = command
             command.sent = time.monotonic_ns()
             self.unsent += text
             self.push()
@@ -426,8 +433,10 @@ class Client:
             is_there = False
         now = time.monotonic_ns()
         while self.waiting and len(self.unread) >= 16:
-            command, cookie = self.waiting[0]
-            wanted = reply(cookie)
+            cookie = int.from_bytes(self.unread[8:16], "big")
+            if self.in_flight == 1 or cookie not in self.waiting:
+                cookie = next(iter(self.waiting))
+            command, wanted = self.waiting[cookie], reply(cookie)
             if self.unread[:16] != wanted:
                 raise ValueError(f"{command} was answered {self.unread[:16].hex()}, and not {wanted.hex()}")
             is_filler = command.kind == READ and not command.cells
@@ -437,7 +446,7 @@ class Client:
             command.answered = now
             data = bytes(self.unread[16:16 + length])
             del self.unread[:16 + length]
-            self.waiting.popleft()
+            del self.waiting[cookie]
             answers.append(command)
             if is_filler:
                 first = command.name - LIVE * BLOCK
@@ -538,15 +547,15 @@ class Totals:
         self.operations, self.verdicts, self.seconds, self.ends = 0, collections.Counter(), 0, collections.Counter()
 
 
-def run(folder, mode, operations, kills, seed, kept, totals):
-    source = random.Random(f"{seed} {mode}")
-    server = Server(folder, mode, source.choice((1, 2)), source)
-    clients = [Client(number, f"{seed} {mode}") for number in range(CLIENTS)]
+def run(folder, mode, in_flight, operations, kills, seed, kept, totals):
+    source = random.Random(f"{seed} {mode} {in_flight}")
+    server = Server(folder, mode, in_flight, source.choice((1, 2)), source)
+    clients = [Client(number, in_flight, f"{seed} {mode} {in_flight}") for number in range(CLIENTS)]
     try:
         fill(server)
         opening = open_image(server, source)
         for life in range(1, kills + 1):
-            name = f"{mode}, life {life}"
+            name = f"{mode}, {in_flight} in flight, life {life}"
             history, count, how = live(server, clients, (operations + kills - life) // kills, source)
             operations_of_life = sum(1 for it in history if it.answered < NEVER)
             totals.operations += count
@@ -558,13 +567,13 @@ def run(folder, mode, operations, kills, seed, kept, totals):
             totals.verdicts[verdict] += 1
             if verdict == WRONG:
                 if kept:
-                    keep(kept, f"{mode}-{life}", opening, history, end)
+                    keep(kept, f"{mode}-{in_flight}-{life}", opening, history, end)
                 check(f"{name} of {operations_of_life} requests, which ended by a {how}: one order fits", "none that is excluded", why)
                 return
             check(f"{name}: one order fits", True, verdict != WRONG)
             opening = end
     except (ValueError, OSError) as error:
-        check(f"{mode}: each request is answered Ok, and each sector is from one write", "no error", f"{error}")
+        check(f"{mode}, {in_flight} in flight: each request is answered Ok, and each sector is from one write", "no error", f"{error}")
     finally:
         if server.process and server.process.poll() is None:
             server.process.kill()
@@ -577,6 +586,7 @@ def main():
     words.add_argument("--seed", type=int, default=int(time.time()))
     words.add_argument("--kills", type=int)
     words.add_argument("--cache", choices=list(MODES))
+    words.add_argument("--in-flight", type=int, choices=range(1, 17), metavar="N")
     words.add_argument("--keep")
     words.add_argument("--only-checker", action="store_true")
     given = words.parse_args()
@@ -588,13 +598,14 @@ def main():
     check_drawn(given.seed)
     print(f"the checker was checked in {time.monotonic() - began:.1f} s", flush=True)
     modes = [given.cache] if given.cache else list(MODES)
-    parts = sum(MODES[mode] for mode in modes)
+    several = [given.in_flight] if given.in_flight else IN_FLIGHT
+    parts = sum(MODES[mode] for mode in modes) * len(several)
     kills = given.kills or max(given.operations // PER_LIFE, 1)
     totals = Totals()
     with tempfile.TemporaryDirectory() as folder:
-        for mode in modes if not given.only_checker else ():
+        for mode, in_flight in itertools.product(modes, several) if not given.only_checker else ():
             part = MODES[mode] / parts
-            run(folder, mode, int(given.operations * part), max(round(kills * part), 1), given.seed, given.keep, totals)
+            run(folder, mode, in_flight, int(given.operations * part), max(round(kills * part), 1), given.seed, given.keep, totals)
     if not given.only_checker:
         ends = ", ".join(f"{count} {end}s" for end, count in totals.ends.items())
         told = ", ".join(f"{totals.verdicts[verdict]} lives {verdict}" for verdict in (FITS, UNDECIDED, WRONG))

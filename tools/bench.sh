@@ -12,7 +12,7 @@
 #    areas, and nbdkit's file plugin, each limited to 256 MiB of memory with its page cache. It needs root and the memory controller of cgroups.
 # 6. How long single requests take: nbdj and nbdkit's file plugin.
 # 7. How much memory each server has after its start, after a load, and a minute later.
-# 8. ONE connection, as a guest has it: nbdj as the guide serves it (`format --size`), nbdkit's file plugin with its usual threads
+# 8. ONE connection, as a guest has it: nbdj as the guide serves it (`format --size`, `--in-flight 16`), nbdkit's file plugin with its usual threads
 #    and with one, and qemu-nbd. READs beside a WRITE with FLUSH, with the times of syncs of the third table; FUA writes in flight; QEMU's own load;
 #    and READs over a page cache that was dropped, which needs root.
 #
@@ -55,7 +55,7 @@ command_of() {
     layout*) echo "$NBDJ serve $1.img --unix $1.sock --workers 16 --frames 16384" ;;
     small*) echo "$NBDJ serve $1.img --unix $1.sock --workers 16 --frames 4096" ;;
     large*) echo "$NBDJ serve $1.img --unix $1.sock --workers 16 --frames 32768" ;;
-    guest) echo "$NBDJ serve guest.img --unix guest.sock" ;;
+    guest) echo "$NBDJ serve guest.img --unix guest.sock --in-flight 16" ;;
     single) echo 'nbdkit -t 1 -f -U single.sock file single.img' ;;
     peer*) echo "nbdkit -f -U $1.sock file $1.img" ;;
     nbdj) echo "$NBDJ serve nbdj.img --unix nbdj.sock --workers 16 --frames $frames" ;;

@@ -71,6 +71,9 @@ unix_mode_rule = record (option_rule (codes "unix-mode")) { is_free = false }
 abbrev pub workers_rule : Rule
 workers_rule = record (option_rule (codes "workers")) { parser = Some (parser.Unsigned 1 16); defaults = codes "4" ∷ [] }
 
+abbrev pub in_flight_rule : Rule
+in_flight_rule = record (option_rule (codes "in-flight")) { parser = Some (parser.Unsigned 1 16); defaults = codes "1" ∷ [] }
+
 abbrev pub when_full_rule : Rule
 when_full_rule = record (option_rule (codes "when-full")) { defaults = codes "wait" ∷ [] }
 
@@ -87,6 +90,9 @@ served_app = with_rule (with_rule (with_rule (with_rule (new_app (codes "serve")
 abbrev pub idle_rule : Rule
 idle_rule = record (option_rule (codes "idle-timeout")) { parser = Some (parser.Unsigned 0 86400); defaults = codes "0" ∷ [] }
 
+abbrev pub keepalive_rule : Rule
+keepalive_rule = record (option_rule (codes "keepalive")) { parser = Some (parser.Unsigned 0 32767); defaults = codes "100" ∷ [] }
+
 -- the same with digits after a point, which clap takes as any text
 abbrev pub flush_rule : Rule
 flush_rule = record (option_rule (codes "flush-interval")) { defaults = codes "1" ∷ [] }
@@ -101,12 +107,15 @@ loss_seconds_rule = record (option_rule (codes "loss-seconds")) { defaults = cod
 abbrev pub on_fault_rule : Rule
 on_fault_rule = record (option_rule (codes "on-fault")) { defaults = codes "exit" ∷ [] }
 
+abbrev pub on_full_rule : Rule
+on_full_rule = record (option_rule (codes "on-full")) { defaults = codes "wait" ∷ [] }
+
 abbrev pub loaded_app : ValueParser → App
-loaded_app modes = with_rule (with_rule (with_rule (with_rule served_app workers_rule) when_full_rule) frames_rule) (cache_rule modes)
+loaded_app modes = with_rule (with_rule (with_rule (with_rule (with_rule served_app workers_rule) in_flight_rule) when_full_rule) frames_rule) (cache_rule modes)
 
 abbrev pub timed_app : ValueParser → App
 timed_app modes =
-    with_rule (with_rule (with_rule (with_rule (loaded_app modes) sessions_rule) handshake_rule) idle_rule) flush_rule
+    with_rule (with_rule (with_rule (with_rule (with_rule (loaded_app modes) sessions_rule) handshake_rule) idle_rule) keepalive_rule) flush_rule
 
 abbrev pub bounded_app : ValueParser → App
 bounded_app modes = with_rule (with_rule (timed_app modes) loss_bytes_rule) loss_seconds_rule
@@ -119,7 +128,7 @@ abbrev pub named_app : ValueParser → App
 named_app modes = with_rule (with_rule (bounded_app modes) (option_rule (codes "export-name"))) fresh_rule
 
 abbrev pub told_app : ValueParser → App
-told_app modes = with_rule (with_rule (with_rule (named_app modes) on_fault_rule) (flag_rule (codes "until-eof"))) (option_rule (codes "status"))
+told_app modes = with_rule (with_rule (with_rule (with_rule (named_app modes) on_fault_rule) on_full_rule) (flag_rule (codes "until-eof"))) (option_rule (codes "status"))
 
 -- how long a call of the device may take, and how long it is from one lock check to the next; 0 for never
 abbrev pub device_rule : Rule
@@ -161,8 +170,12 @@ recover_app = with_rule (with_rule (with_rule (with_rule (new_app (codes "recove
 abbrev pub upgrade_app : App
 upgrade_app = with_rule (with_rule (with_rule (new_app (codes "upgrade")) path_rule) wait_lock_rule) verbose_rule
 
+-- it excludes another one
+abbrev pub deep_rule : Rule
+deep_rule = record (flag_rule (codes "deep")) { is_free = false }
+
 abbrev pub check_app : App
-check_app = with_rule (with_rule (with_rule (new_app (codes "check")) path_rule) (flag_rule (codes "json"))) verbose_rule
+check_app = with_rule (with_rule (with_rule (with_rule (new_app (codes "check")) path_rule) (flag_rule (codes "json"))) deep_rule) verbose_rule
 
 abbrev pub rehearse_app : App
 rehearse_app = with_rule (with_rule (with_rule (new_app (codes "rehearse")) (flag_rule (codes "sweep"))) (flag_rule (codes "faults"))) verbose_rule

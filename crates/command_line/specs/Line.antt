@@ -23,6 +23,8 @@ use Rattle.front_end.specs.declared.refusal.Refusal.TheVariants.{AreaSmall}
 use Rattle.front_end.specs.declared.options.Limits.{Limits}
 use Rattle.front_end.specs.declared.options.OnFault.{OnFault}
 use Rattle.front_end.specs.declared.options.OnFault.TheVariants.{Exit, Stay}
+use Rattle.front_end.specs.declared.options.OnFull.{OnFull}
+use Rattle.front_end.specs.declared.options.OnFull.TheVariants as space
 use Rattle.front_end.specs.declared.options.WhenFull.{WhenFull}
 use Rattle.front_end.specs.declared.options.WhenFull.TheVariants as full
 
@@ -113,11 +115,17 @@ abbrev pub full_name : WhenFull → Text
 full_name full.Wait = codes "wait"
 full_name full.Refuse = codes "refuse"
 
+-- what becomes of a write for which the disk has no space; a command without this option doesn't wait
+abbrev pub SaysOnFull : List Row → OnFull → Type 0
+SaysOnFull rows space.Wait = first_of (codes "on-full") rows ≡ Some (codes "wait")
+SaysOnFull rows space.Stop = (first_of (codes "on-full") rows ≡ Some (codes "stop")) ⊎ IsLeftOut rows (codes "on-full")
+
 -- how many sessions there are, how long each waits, how long a call of the device may take, and how long it is between lock checks
 abbrev pub SaysLimits : List Row → Limits → Type 0
 SaysLimits rows limits =
     IsGiven rows (codes "sessions") limits.sessions × IsGiven rows (codes "handshake-timeout") limits.handshake_seconds
-    × IsGiven rows (codes "idle-timeout") limits.idle_seconds × IsGivenSeconds rows (codes "flush-interval") limits.flush_millis
+    × IsGiven rows (codes "idle-timeout") limits.idle_seconds × IsGiven rows (codes "keepalive") limits.keepalive_seconds
+    × IsGivenSeconds rows (codes "flush-interval") limits.flush_millis
     × IsGivenSize rows (codes "loss-bytes") limits.loss_bytes × IsGivenSeconds rows (codes "loss-seconds") limits.loss_millis
     × IsGivenSeconds rows (codes "device-timeout") limits.device_millis × IsGivenSeconds rows (codes "lock-check") limits.check_millis
 
@@ -181,6 +189,7 @@ IsAsked (Some (name, rows)) (Pipe path options) =
     × (first_of (codes "cache") rows ≡ Some (mode_name options.mode))
 IsAsked (Some (name, rows)) (Serve path addresses status called options) =
     (name ≡ codes "serve") × HasPath rows path.now × SaysAddresses rows addresses.items × SaysStatusSocket rows (option_map (λ path. path.now) status) × SaysName rows called × IsGiven rows (codes "workers") options.workers
+    × IsGiven rows (codes "in-flight") options.in_flight
     × IsGiven rows (codes "frames") options.frames × (first_of (codes "cache") rows ≡ Some (mode_name options.mode))
     × SaysLimits rows options.limits × (first_of (codes "on-fault") rows ≡ Some (fault_name options.on_fault))
     × (first_of (codes "when-full") rows ≡ Some (full_name options.when_full))
@@ -188,7 +197,8 @@ IsAsked (Some (name, rows)) (Serve path addresses status called options) =
 IsAsked (Some (name, rows)) (Status socket form) = (name ≡ codes "status") × (first_of (codes "socket") rows ≡ Some socket.now) × SaysStatusForm rows form
 IsAsked (Some (name, rows)) (Recover path is_json) = (name ≡ codes "recover") × HasPath rows path.now × SaysFlag rows (codes "json") is_json
 IsAsked (Some (name, rows)) (Upgrade path) = (name ≡ codes "upgrade") × HasPath rows path.now
-IsAsked (Some (name, rows)) (Check path is_json) = (name ≡ codes "check") × HasPath rows path.now × SaysFlag rows (codes "json") is_json
+IsAsked (Some (name, rows)) (Check path is_json is_deep) =
+    (name ≡ codes "check") × HasPath rows path.now × SaysFlag rows (codes "json") is_json × SaysFlag rows (codes "deep") is_deep
 IsAsked (Some (name, rows)) (Rehearse course) = (name ≡ codes "rehearse") × SaysScriptRuns rows course
 IsAsked (Some (name, rows)) (Refuse path refusal) = (name ≡ codes "format") × HasPath rows path.now × SaysSmallAreas rows × (refusal ≡ AreaSmall)
 
@@ -197,4 +207,4 @@ abbrev pub IsInvocation : Option (Text × List Row) → Invocation → Type 0
 IsInvocation None invocation = ⊥
 IsInvocation (Some (name, rows)) invocation =
     IsAsked (Some (name, rows)) invocation.plan × SaysFlag rows (codes "verbose") invocation.is_verbose
-    × SaysFlag rows (codes "wait-lock") invocation.waits_for_lock
+    × SaysFlag rows (codes "wait-lock") invocation.waits_for_lock × SaysOnFull rows invocation.on_full

@@ -7,7 +7,7 @@ ghost use Rattle.command_line.specs.inner.Rows.{app_of_row, rule_of_form, rule_o
 
 use clap::builder::ValueParser;
 use clap::{Arg, ArgAction, Command};
-use front_end::{LEAST_FRAMES, MOST_FRAMES, MOST_WORKERS, VERSION};
+use front_end::{LEAST_FRAMES, MOST_FRAMES, MOST_IN_FLIGHT, MOST_WORKERS, VERSION};
 use std::alloc::{AllocError, Global};
 
 // The whole command line; the modes and the others are what `--cache` takes, in `pipe` and in `serve`.
@@ -58,6 +58,32 @@ pub struct SubcommandRow<'a> {
     // What stands in place of the usage that clap would tell.
     usage: Option<&'a str>,
     arguments: &'a [ArgumentRow<'a>],
+}
+
+impl<'a> SubcommandRow<'a> {
+    // How the option of this name is given; None if there is no such option.
+    pub fn form_of(&self, name: &str) -> Option<&Form<'a>> {
+        let row = self.arguments.iter().find(|row| row.name == name)?;
+        match &row.form {
+            Form::Word(_) => None,
+            form => Some(form),
+        }
+    }
+}
+
+// The subcommand of this name.
+pub fn row_of(name: &str) -> Option<&'static SubcommandRow<'static>> {
+    match name {
+        "format" => Some(&FORMAT),
+        "serve" => Some(&SERVE),
+        "status" => Some(&STATUS),
+        "pipe" => Some(&PIPE),
+        "recover" => Some(&RECOVER),
+        "upgrade" => Some(&UPGRADE),
+        "check" => Some(&CHECK),
+        "rehearse" => Some(&REHEARSE),
+        _ => None,
+    }
 }
 
 pub fn subcommand<'a>(alloc: Global, row: &SubcommandRow<'a>) -> Result<Command<'a>, AllocError>
@@ -241,6 +267,13 @@ const JSON: ArgumentRow<'static> = ArgumentRow {
     help: "Prints one line of JSON instead of text",
 };
 
+const DEEP: ArgumentRow<'static> = ArgumentRow {
+    name: "deep",
+    form: Form::Flag,
+    tie: Tie::Excludes("json"),
+    help: "Prints each group of the journal too: where it stands, and the numbers of its writes",
+};
+
 // There are two ways to say how large an image is.
 pub static FORMAT: SubcommandRow<'static> = SubcommandRow {
     name: "format",
@@ -295,7 +328,7 @@ pub static FORMAT: SubcommandRow<'static> = SubcommandRow {
 pub static SERVE: SubcommandRow<'static> = SubcommandRow {
     name: "serve",
     about: "Serves the image to clients of the Network Block Device protocol",
-    after_help: "Example: nbdj serve d.img --listen 127.0.0.1:10809\n\n--listen and --unix may be given more than once, and together. Without them the server uses the sockets that LISTEN_FDS counts. For each socket it prints `listening PORT` or `listening SOCKET` once clients can connect. A kill has the effect of a power cut: every write that a FLUSH or a FUA reply has confirmed stays. With --cache ordered a FLUSH does not make anything durable: the last answered writes may be lost. nbdj-server runs this command so that a signal loses no answered write.\n\nExit status: 0 ended as asked; 1 a fault of file, image, address, device or memory; 2 a refused command line; 4 a file or a device in use.",
+    after_help: "Example: nbdj serve d.img --listen 127.0.0.1:10809\n\n--listen and --unix may be given more than once, and together. Without them the server uses the sockets that LISTEN_FDS counts, and prints nothing. For each socket that it makes it prints `listening PORT` or `listening SOCKET` once clients can connect. A kill has the effect of a power cut: every write that a FLUSH or a FUA reply has confirmed stays. With --cache ordered a FLUSH does not make anything durable: the last answered writes may be lost. nbdj-server runs this command so that a signal loses no answered write.\n\nExit status: 0 ended as asked; 1 a fault of file, image, address, device or memory; 2 a refused command line; 4 a file or a device in use.",
     usage: Some(
         "nbdj serve [OPTIONS] --listen <ADDR> <PATH>\n       nbdj serve [OPTIONS] --unix <SOCKET> <PATH>\n       nbdj serve [OPTIONS] <PATH>",
     ),
@@ -326,6 +359,12 @@ pub static SERVE: SubcommandRow<'static> = SubcommandRow {
             help: "Connections served at a time: 1 to 16",
         },
         ArgumentRow {
+            name: "in-flight",
+            form: Form::ValueOr("N", "1", ValueParser::Unsigned(1, MOST_IN_FLIGHT)),
+            tie: Tie::None,
+            help: "Requests of each connection in progress at a time: 1 to 16; with more than 1, replies may overtake others",
+        },
+        ArgumentRow {
             name: "when-full",
             form: Form::TextOr("WAY", "wait"),
             tie: Tie::None,
@@ -350,6 +389,12 @@ pub static SERVE: SubcommandRow<'static> = SubcommandRow {
             form: Form::ValueOr("SECONDS", "0", ValueParser::Unsigned(0, 86_400)),
             tie: Tie::None,
             help: "Longest silence of a client after the handshake, in seconds: 1 to 86400, or 0 for no limit",
+        },
+        ArgumentRow {
+            name: "keepalive",
+            form: Form::ValueOr("SECONDS", "100", ValueParser::Unsigned(0, 32_767)),
+            tie: Tie::None,
+            help: "Drops a TCP client whose host hasn't answered, or which has taken no reply, for this many seconds: 1 to 32767, or 0 for no limit",
         },
         ArgumentRow {
             name: "flush-interval",
@@ -386,6 +431,12 @@ pub static SERVE: SubcommandRow<'static> = SubcommandRow {
             form: Form::TextOr("WAY", "exit"),
             tie: Tie::None,
             help: "After a device fault: `exit` ends the server with status 1, `stay` answers every request with EIO",
+        },
+        ArgumentRow {
+            name: "on-full",
+            form: Form::TextOr("WAY", "wait"),
+            tie: Tie::None,
+            help: "If the disk under a file with holes is full: `wait` tries again until there is space, `stop` takes it for a device fault",
         },
         ArgumentRow {
             name: "until-eof",
@@ -479,7 +530,7 @@ static CHECK: SubcommandRow<'static> = SubcommandRow {
     about: "Prints what the image holds, and writes nothing",
     after_help: "Example: nbdj check d.img\n\nA kill or a power cut changes nothing.\n\nExit status: 0 the image is whole; 1 a fault of file, device or memory; 2 a refused command line; 3 the image is bad; 4 a file or a device in use.",
     usage: None,
-    arguments: &[PATH, JSON, VERBOSE],
+    arguments: &[PATH, JSON, DEEP, VERBOSE],
 };
 
 static REHEARSE: SubcommandRow<'static> = SubcommandRow {

@@ -3,8 +3,10 @@
 
 mod commands;
 mod parse;
+mod repeats;
 mod seconds;
 mod size;
 
 pub use clap::Error as LineFault;
 pub use parse::{address_fault, line};
+pub use repeats::last_given;

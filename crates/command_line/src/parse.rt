@@ -2,7 +2,7 @@ ghost use Rattle.std.specs.Prelude.{◌≡◌, ◌≢◌, ◌≤◌, ◌<◌, �
 ghost use Rattle.clap.specs.Words.{first_of, found_of, rows_of, subcommand_of};
 ghost use Rattle.clap.specs.declared.builder.value_parser.ValueParser.{ValueParser};
 ghost use Rattle.command_line.specs.Commands.{nbdj_app};
-ghost use Rattle.command_line.specs.Line.{fault_name, layout_number, mode_name, HasPath, IsAsked, IsInvocation, IsGiven, IsGivenSeconds, IsGivenSize, SaysArea, SaysBlocks, SaysLayout, SaysReplaces, SaysScriptRuns, SaysFlag, SaysLimits, SaysName, SaysStatusForm, SaysStatusSocket, SaysUnixMode, full_name, SaysAddresses, values_given};
+ghost use Rattle.command_line.specs.Line.{fault_name, layout_number, mode_name, HasPath, IsAsked, IsInvocation, IsGiven, IsGivenSeconds, IsGivenSize, SaysArea, SaysBlocks, SaysLayout, SaysReplaces, SaysScriptRuns, SaysFlag, SaysLimits, SaysName, SaysOnFull, SaysStatusForm, SaysStatusSocket, SaysUnixMode, full_name, SaysAddresses, values_given};
 ghost use Rattle.command_line.specs.Size.{IsSize};
 ghost use Rattle.front_end.specs.declared.plan.Address.TheVariants.{Tcp, Unix};
 ghost use Rattle.image_model.specs.declared.layout.Layout.TheVariants as Layout;
@@ -15,8 +15,8 @@ use clap::{ArgMatches, Command, Error};
 use export_model::Mode;
 use front_end::{
     Address, Course, FormatOptions, Invocation, LEAST_LOSS_BYTES, Limits, MOST_LOSS_BYTES,
-    MOST_NAME_BYTES, OnFault, PipeOptions, Plan, Refusal, ServeOptions, ServedName, StatusForm,
-    WhenFull,
+    MOST_NAME_BYTES, OnFault, OnFull, PipeOptions, Plan, Refusal, ServeOptions, ServedName,
+    StatusForm, WhenFull,
 };
 use image_model::{BLOCK_BYTES, Geometry, LEAST_AREA_BYTES, Layout, MOST_AREA_BYTES, MOST_BLOCKS};
 use std::alloc::{AllocError, Global};
@@ -56,10 +56,12 @@ fn invocation<'a>(
     let plan = asked(alloc, name, matches)?;
     let is_verbose = flag(matches, "verbose");
     let waits_for_lock = flag(matches, "wait-lock");
+    let on_full = on_full(alloc, matches)?;
     Ok(Invocation {
         plan,
         is_verbose,
         waits_for_lock,
+        on_full,
     })
 }
 
@@ -82,6 +84,7 @@ fn asked<'a>(alloc: Global, name: &str, matches: &ArgMatches<'a>) -> Result<Plan
         "check" => Ok(Plan::Check {
             path: path(alloc, matches)?,
             is_json: flag(matches, "json"),
+            is_deep: flag(matches, "deep"),
         }),
         "rehearse" => Ok(Plan::Rehearse {
             course: course(alloc, matches)?,
@@ -279,6 +282,7 @@ fn serve<'a>(alloc: Global, matches: &ArgMatches<'a>) -> Result<Plan<'a>, Error>
     let path = path(alloc, matches)?;
     let addresses = addresses(alloc, matches)?;
     let workers = number(alloc, matches, "workers")?;
+    let in_flight = number(alloc, matches, "in-flight")?;
     let frames = number(alloc, matches, "frames")?;
     let mode = mode(alloc, matches)?;
     let limits = limits(alloc, matches)?;
@@ -288,7 +292,7 @@ fn serve<'a>(alloc: Global, matches: &ArgMatches<'a>) -> Result<Plan<'a>, Error>
     let status = status_socket(alloc, matches)?;
     let name = served_name(alloc, matches)?;
     match ServeOptions::new(
-        frames, mode, workers, limits, on_fault, when_full, until_eof,
+        frames, mode, workers, in_flight, limits, on_fault, when_full, until_eof,
     ) {
         Some(options) => Ok(Plan::Serve {
             path,
@@ -299,7 +303,7 @@ fn serve<'a>(alloc: Global, matches: &ArgMatches<'a>) -> Result<Plan<'a>, Error>
         }),
         None => Err(serve_fault(
             alloc,
-            "--frames: the frames are 512 to 65536, the workers 1 to 16, and the handshake takes 1 second or more",
+            "--frames: the frames are 512 to 65536, the workers and the requests in flight 1 to 16, and the handshake takes 1 second or more",
         )),
     }
 }
@@ -371,6 +375,7 @@ fn limits(alloc: Global, matches: &ArgMatches<'_>) -> Result<Limits, Error>
     let sessions = number(alloc, matches, "sessions")?;
     let handshake_seconds = number(alloc, matches, "handshake-timeout")?;
     let idle_seconds = number(alloc, matches, "idle-timeout")?;
+    let keepalive_seconds = number(alloc, matches, "keepalive")?;
     let flush_millis = millis(alloc, matches, "flush-interval")?;
     let loss_bytes = loss_bytes(alloc, matches)?;
     let loss_millis = millis(alloc, matches, "loss-seconds")?;
@@ -380,6 +385,7 @@ fn limits(alloc: Global, matches: &ArgMatches<'_>) -> Result<Limits, Error>
         sessions,
         handshake_seconds,
         idle_seconds,
+        keepalive_seconds,
         flush_millis,
         loss_bytes,
         loss_millis,
@@ -402,15 +408,23 @@ fn millis(alloc: Global, matches: &ArgMatches<'_>, name: &str) -> Result<u64, Er
             }
         }
     }
-    Err(no_seconds(alloc, name))
+    Err(no_seconds(alloc, name, text(matches, name).unwrap_or("")))
 }
 
 // The fault of a value that is no number of seconds up to a day.
-fn no_seconds(alloc: Global, name: &str) -> Error {
+fn no_seconds(alloc: Global, name: &str, value: &str) -> Error {
     let message = format!(in alloc;
-        "invalid value for '--{name} <SECONDS>': it is 0 to 86400, with at most three digits behind a point"
+        "invalid value '{value}' for '--{name} <SECONDS>': it is 0 to 86400, with at most three digits behind a point"
     );
     match message {
+        Ok(message) => serve_fault(alloc, message.as_str()),
+        Err(error) => Error::from(error),
+    }
+}
+
+// The fault of an option's value that isn't what it may be.
+fn wrong_value(alloc: Global, option: &str, value: &str, wanted: &str) -> Error {
+    match format!(in alloc; "invalid value '{value}' for '{option}': it is {wanted}") {
         Ok(message) => serve_fault(alloc, message.as_str()),
         Err(error) => Error::from(error),
     }
@@ -427,9 +441,11 @@ fn loss_bytes(alloc: Global, matches: &ArgMatches<'_>) -> Result<u64, Error>
             }
         }
     }
-    Err(serve_fault(
+    Err(wrong_value(
         alloc,
-        "invalid value for '--loss-bytes <BYTES>': it is 2M to 64M, a number of bytes or one with K or M behind it",
+        "--loss-bytes <BYTES>",
+        text(matches, "loss-bytes").unwrap_or(""),
+        "2M to 64M, a number of bytes or one with K or M behind it",
     ))
 }
 
@@ -446,10 +462,46 @@ fn addresses<'a>(alloc: Global, matches: &ArgMatches<'a>) -> Result<Vec<Address<
         ));
     }
     let listens = texts(alloc, matches, "listen")?;
+    if let Some(address) = listens.iter().find(|address| !is_address(address)) {
+        return Err(wrong_value(
+            alloc,
+            "--listen <ADDR>",
+            address,
+            "a host or an IP address, and maybe a port from 0 to 65535 after a colon",
+        ));
+    }
     let mut addresses = tcp_addresses(alloc, &listens)?;
     let unix = unix_addresses(alloc, &sockets, mode)?;
     addresses.extend_from_slice(&unix)?;
     Ok(addresses)
+}
+
+// Whether a text can be an address: a host that isn't a number alone, which would be another host than most people mean, and maybe a
+// port after a colon.
+fn is_address(address: &str) -> bool {
+    let (host, port) = split_port(address);
+    if host.is_empty() || host.bytes().all(|byte| byte.is_ascii_digit()) {
+        return false;
+    }
+    match port {
+        Some(port) => !port.starts_with('+') && port.parse::<u16>().is_ok(),
+        None => true,
+    }
+}
+
+// The host of an address, and its port, if it has one.
+fn split_port(address: &str) -> (&str, Option<&str>) {
+    if let Some(inside) = address.strip_prefix('[') {
+        return match inside.split_once(']') {
+            Some((host, "")) => (host, None),
+            Some((host, rest)) => (host, Some(rest.strip_prefix(':').unwrap_or(""))),
+            None => ("", None),
+        };
+    }
+    match address.split_once(':') {
+        Some((host, port)) if !port.contains(':') => (host, Some(port)),
+        _ => (address, None),
+    }
 }
 
 // Whether no path is empty.
@@ -493,9 +545,11 @@ fn unix_mode(alloc: Global, matches: &ArgMatches<'_>) -> Result<Option<u32>, Err
     };
     match u32::from_str_radix(octal, 8) {
         Ok(mode) if mode <= ALL_MODE_BITS => Ok(Some(mode)),
-        _ => Err(serve_fault(
+        _ => Err(wrong_value(
             alloc,
-            "invalid value for '--unix-mode <MODE>': it is a number of octal digits up to 777",
+            "--unix-mode <MODE>",
+            octal,
+            "a number of octal digits up to 777",
         )),
     }
 }
@@ -506,10 +560,18 @@ fn on_fault(alloc: Global, matches: &ArgMatches<'_>) -> Result<OnFault, Error>
     match text(matches, "on-fault") {
         Some("exit") => Ok(OnFault::Exit),
         Some("stay") => Ok(OnFault::Stay),
-        _ => Err(serve_fault(
-            alloc,
-            "invalid value for '--on-fault <WAY>': it is exit or stay",
-        )),
+        way => Err(wrong_value(alloc, "--on-fault <WAY>", way.unwrap_or(""), "exit or stay")),
+    }
+}
+
+// What becomes of a write for which the disk has no space. Only a server waits.
+fn on_full(alloc: Global, matches: &ArgMatches<'_>) -> Result<OnFull, Error>
+    ensures { IfOk result (SaysOnFull (rows_of (found_of matches.now))) }
+{
+    match text(matches, "on-full") {
+        Some("wait") => Ok(OnFull::Wait),
+        Some("stop") | None => Ok(OnFull::Stop),
+        Some(way) => Err(wrong_value(alloc, "--on-full <WAY>", way, "wait or stop")),
     }
 }
 
@@ -519,9 +581,11 @@ fn when_full(alloc: Global, matches: &ArgMatches<'_>) -> Result<WhenFull, Error>
     match text(matches, "when-full") {
         Some("wait") => Ok(WhenFull::Wait),
         Some("refuse") => Ok(WhenFull::Refuse),
-        _ => Err(serve_fault(
+        way => Err(wrong_value(
             alloc,
-            "invalid value for '--when-full <WAY>': it is wait or refuse",
+            "--when-full <WAY>",
+            way.unwrap_or(""),
+            "wait or refuse",
         )),
     }
 }

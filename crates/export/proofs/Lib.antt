@@ -7,6 +7,7 @@ mod OpeningFindsImage
 mod UnlockedReadIsServed
 mod Lists
 mod OpeningWithoutMemory
+mod RequestIsReplied
 mod RequestIsServed
 mod AnswersSurviveCrash
 mod PassAfterServing

@@ -1,3 +1,4 @@
+pub mod Begun
 pub mod Clients
 pub mod Left
 pub mod Noted

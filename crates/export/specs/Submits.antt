@@ -10,6 +10,13 @@ use Rattle.nbd_wire.specs.declared.error.Errno.{Errno}
 use Rattle.nbd_wire.specs.declared.error.Errno.TheVariants.{Io, NoMemory, NoSpace}
 use Rattle.nbd_wire.specs.declared.message.Answer.{Answer}
 use Rattle.nbd_wire.specs.declared.message.Answer.TheVariants.{Done, Refused}
+use Rattle.export_model.specs.Verdict.{verdict}
+use Rattle.export_model.specs.declared.event.Event.TheVariants.{Answered, Sent}
+use Rattle.image_model.specs.declared.geometry.Geometry.{Geometry}
+use Rattle.nbd_wire.specs.Reply.{IsAnswerTo}
+use Rattle.nbd_wire.specs.declared.message.Reply.{Reply}
+use Rattle.nbd_wire.specs.declared.message.SessionFlags.{SessionFlags}
+use Rattle.shared_store.specs.Answers.{TellsImage}
 use Rattle.export_model.specs.Log.{edit_asked, flush_waits, is_flush, is_write, waits_for_store}
 use Rattle.export_model.specs.Shown.{shown_by}
 use Rattle.export_model.specs.declared.action.Action.{Action}
@@ -70,3 +77,14 @@ pub record IsFlushAnswered (old new : PassState) (answer : Answer) : Type 0 wher
   pub own : new.own ≡ old.own
   pub knew : IsPrefix old.history new.history
   pub lasts : old.durable ≤ new.durable
+
+-- A request of a pass got this reply. It is one that the rules allow for the request. What its client sent and was answered
+-- grows by the request and its answer alone.
+pub record IsReplied (opening : ℕ) (first : Image) (Sure : Type 0 → Type 0) (request : Message) (kept : Mode) (geometry : Geometry) (flags : SessionFlags) (old new : PassState) (reply : Reply) : Type 0 where
+  pub cookie : reply.cookie ≡ request.head.cookie
+  pub submitted : IsSubmitted opening first Sure request kept old new reply.answer
+  pub kind : IsAnswerTo flags request.head.kind reply.answer
+  pub judged : IsJudged (verdict request.head geometry flags) request reply.answer
+  pub tells : Sure (TellsImage (apply_all new.history first) request.head reply.answer)
+  pub by : new.client.by ≡ old.client.by
+  pub calls : new.client.mine ≡ old.client.mine ++ Sent old.client.by request ∷ Answered old.client.by reply.answer ∷ []

@@ -16,7 +16,8 @@ pub trait ReadUnlocked: Drop {
     ghost gives: { Self → ℕ → ℕ → List ℕ → Type 0 };
 
     /// What it vouches for: bytes of blocks, of which it gave those in a span, and an order over which they are served. That these are
-    /// the bytes of the base is trusted; on it rests which image a READ and memory show.
+    /// the bytes of the base is a premise; on it rests which image a READ and memory show. A handle of a file can't show that its bytes
+    /// are right. So what it vouches for has to be what it gave, and no more: of other bytes the premise would be false.
     ghost vouches: { Self → SpanRead → Type 0 };
 
     /// Reads the bytes from `offset` on. `asked` is the base that the order had noted when they were found missing. Bytes that nobody
@@ -28,6 +29,9 @@ pub trait ReadUnlocked: Drop {
         into: &mut [u8],
     ) -> Result<(), DeviceFault>
         ensures { OnOk result (gives self.now (base_of asked) offset into.new) };
+
+    /// Bytes from `offset` on will be read soon: the system may begin to read them. No answer depends on it.
+    fn prefetch(&self, _offset: u64, _length: u64) {}
 
     /// Whether it vouches for bytes of blocks, from the first one on, that are about to be served over an order. It gave those in the span,
     /// on a device of the export's sizes, when it was asked under the base that the order has noted still. Bytes that it doesn't vouch

@@ -1,6 +1,6 @@
 //! What the threads of an export tell one another.
 
-use std::sync::atomic::{AtomicBool, Ordering};
+use std::sync::atomic::{AtomicBool, AtomicU64, Ordering};
 use std::sync::{Condvar, Mutex};
 
 /// Where threads wait, and are told to look again.
@@ -14,6 +14,8 @@ pub(crate) struct Signals {
     pub checkpoint_due: Condvar,
     // Whether writers are to be slowed down. It saves them the order's lock if they aren't.
     slows_writers: AtomicBool,
+    // How many READs have found blocks missing.
+    misses: AtomicU64,
     /// Held while a thread waits for the keeper's lock. A thread that lets that lock go and wants it again at once then comes after those
     /// that wait for it.
     pub turn: Mutex<()>,
@@ -26,6 +28,7 @@ impl Drop for Signals {
             work: _,
             checkpoint_due: _,
             slows_writers: _,
+            misses: _,
             turn: _,
         } = self;
     }
@@ -38,6 +41,7 @@ impl Signals {
             work: Condvar::new(),
             checkpoint_due: Condvar::new(),
             slows_writers: AtomicBool::new(false),
+            misses: AtomicU64::new(0),
             turn: Mutex::new(()),
         }
     }
@@ -52,6 +56,16 @@ impl Signals {
     /// Whether writers are to be slowed down, as it was last noted.
     pub(crate) fn slows_writers(&self) -> bool {
         self.slows_writers.load(Ordering::SeqCst)
+    }
+
+    /// Notes that a READ has found blocks missing.
+    pub(crate) fn note_miss(&self) {
+        self.misses.fetch_add(1, Ordering::SeqCst);
+    }
+
+    /// How many READs have found blocks missing.
+    pub(crate) fn misses(&self) -> u64 {
+        self.misses.load(Ordering::SeqCst)
     }
 
     /// Tells the flusher and the checkpointer to look for work.

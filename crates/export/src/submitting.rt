@@ -1,4 +1,4 @@
-ghost use Rattle.std.specs.Prelude.{◌≡◌, ◌≢◌, ◌⊎◌, ◌≤◌, ◌<◌, ◌-◌, ◌*◌, ◌++◌, ◌∷◌, [], max, IfNone, IfSome, OnOk, length, slice_range, vec_len, vec_capacity};
+ghost use Rattle.std.specs.Prelude.{◌≡◌, ◌≢◌, ◌⊎◌, ◌≤◌, ◌<◌, ◌-◌, ◌*◌, ◌++◌, ◌∷◌, [], max, IfErr, IfNone, IfOk, IfSome, OnOk, length, slice_range, vec_len, vec_capacity};
 ghost use mathlib.Core.List.{IsPrefix};
 ghost use Rattle.export.specs.Noted.{base_of};
 ghost use Rattle.export.specs.Submits.{IsCovered, IsJudged, IsSubmitted};
@@ -12,6 +12,7 @@ ghost use Rattle.nbd_wire.specs.declared.message.Answer.TheVariants as Answer;
 ghost use Rattle.regions.specs.Layout.{block_at};
 ghost use Rattle.request_core.specs.Reading.{IsPlanned};
 ghost use Rattle.request_core.specs.Serving.{ready_for};
+ghost use Rattle.request_core.specs.declared.serving.Served.TheVariants as Served;
 ghost use Rattle.shared_store.specs.Answers.{TellsImage};
 ghost use Rattle.export_model.specs.Verdict.{verdict};
 ghost use Rattle.shared_store.specs.Orders.{Trusting};
@@ -26,6 +27,7 @@ use crate::name::ExportName;
 use crate::retired::{LastPass, RetiredPass};
 use crate::second_handle::ReadUnlocked;
 use crate::sync_points::SyncPoints;
+use crate::waits::WaitReason;
 use disk_model::{DeviceFault, Disk};
 use image_model::BLOCK_BYTES;
 use marks::{Pass, Told, Trust};
@@ -124,7 +126,7 @@ impl<B: ExportName, D: Disk, H: ReadUnlocked, T: Trust> Export<B, D, H, T> {
         Reply { cookie, answer }
     }
 
-    // Serves a request that its client has sent until it has an answer. It tries again each time that there was no room.
+    // Serves a request that its client has sent until it has an answer.
     fn serve_to_end<R: Wait + Clock, G: SyncPoints>(
         &self,
         rt: &R,
@@ -136,11 +138,31 @@ impl<B: ExportName, D: Disk, H: ReadUnlocked, T: Trust> Export<B, D, H, T> {
         requires { MayServe T.logs T.trusted T.mode T.image B.opening B.image B.vouches B.trusted B.geometry request terms pass.old.client }
         ensures { IsServedAs T.logs T.trusted T.image B.opening B.image B.vouches B.trusted request terms pass.old pass.new (ready_for request.head.cookie result) }
     {
+        match self.serve_at_once(rt, points, pass, request, terms) {
+            Ok(answer) => answer,
+            Err(number) => self.wait_for(rt, points, pass, number),
+        }
+    }
+
+    /// Serves a request that its client has sent until it has an answer, or else a number that has to be durable first. It tries again
+    /// each time that there was no room.
+    pub(crate) fn serve_at_once<R: Wait + Clock, G: SyncPoints>(
+        &self,
+        rt: &R,
+        points: &mut G,
+        pass: &mut Pass<B>,
+        request: Request,
+        terms: Terms,
+    ) -> Result<Answer, u64>
+        requires { MayServe T.logs T.trusted T.mode T.image B.opening B.image B.vouches B.trusted B.geometry request terms pass.old.client }
+        ensures answered { IfOk result (λ answer. IsServedAs T.logs T.trusted T.image B.opening B.image B.vouches B.trusted request terms pass.old pass.new (ready_for request.head.cookie answer)) }
+        ensures waits { IfErr result (λ number. IsServedAs T.logs T.trusted T.image B.opening B.image B.vouches B.trusted request terms pass.old pass.new (Served.Wait number)) }
+    {
         let mut request = request;
         for _ in rt.forever() {
-            match self.serve_once(rt, pass, request, terms) {
-                Served::Ready(reply) => return reply.answer,
-                Served::Wait(number) => return self.wait_for(rt, points, pass, number),
+            match self.serve_once(rt, points, pass, request, terms) {
+                Served::Ready(reply) => return Ok(reply.answer),
+                Served::Wait(number) => return Err(number),
                 Served::NoRoom(back) => request = back,
             }
         }
@@ -173,9 +195,10 @@ impl<B: ExportName, D: Disk, H: ReadUnlocked, T: Trust> Export<B, D, H, T> {
     }
 
     // Tries to serve a request, under the order's lock alone if it can. Without room it gives the request back, mostly after a wait.
-    fn serve_once<R: Wait>(
+    fn serve_once<R: Wait + Clock, G: SyncPoints>(
         &self,
         rt: &R,
+        points: &mut G,
         pass: &mut Pass<B>,
         request: Request,
         terms: Terms,
@@ -207,12 +230,17 @@ impl<B: ExportName, D: Disk, H: ReadUnlocked, T: Trust> Export<B, D, H, T> {
             Served::NoRoom(back) if queue.exceeds_loss(back) => {
                 queue.want_pending();
                 self.signals.notify(true, false);
-                let _woken = self.signals.progress.wait(rt, queue);
+                let reason = if queue.is_full() {
+                    WaitReason::Journal
+                } else {
+                    WaitReason::LossBytes
+                };
+                self.wait_for_room(rt, points, queue, reason);
             }
             Served::NoRoom(_) => {
                 queue.note_no_room();
                 self.signals.notify(true, true);
-                let _woken = self.signals.progress.wait(rt, queue);
+                self.wait_for_room(rt, points, queue, WaitReason::Frames);
             }
         }
         served
@@ -300,6 +328,7 @@ impl<B: ExportName, D: Disk, H: ReadUnlocked, T: Trust> Export<B, D, H, T> {
         let Some(handle) = &self.second_handle else {
             return None;
         };
+        self.signals.note_miss();
         let head = request.head();
         let blocks = Blocks::from_head(&head);
         let Some(mut bytes) = self.take_buffer(rt, blocks.bytes()) else {

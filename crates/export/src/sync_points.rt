@@ -1,3 +1,4 @@
+use crate::waits::WaitReason;
 use std::time::Duration;
 
 /// A place where a thread of an export can be stopped.
@@ -21,6 +22,11 @@ pub enum Point {
     },
     /// A step that stores groups or copies the journal was refused memory, with no lock held; reached once until such a step is taken.
     NoMemory,
+    /// After a write has waited before it was accepted, with no lock held; it may have to wait again.
+    Waited {
+        reason: WaitReason,
+        took: Duration,
+    },
     /// After a reply was written.
     Answered,
 }

@@ -10,11 +10,11 @@ mod plan;
 mod refusal;
 
 /// The version of the program.
-pub const VERSION: &str = "1.3.9";
+pub const VERSION: &str = "1.3.10";
 
 pub use format_options::FormatOptions;
 pub use limits::{LEAST_FRAMES, LEAST_LOSS_BYTES, MOST_FRAMES, MOST_LOSS_BYTES};
-pub use options::{Limits, MOST_WORKERS, OnFault, ServeOptions, WhenFull};
+pub use options::{Limits, MOST_IN_FLIGHT, MOST_WORKERS, OnFault, OnFull, ServeOptions, WhenFull};
 pub use pipe_options::PipeOptions;
 pub use plan::{Address, Course, Invocation, MOST_NAME_BYTES, Plan, ServedName, StatusForm};
 pub use refusal::Refusal;

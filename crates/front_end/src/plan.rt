@@ -1,5 +1,5 @@
 use crate::format_options::FormatOptions;
-use crate::options::ServeOptions;
+use crate::options::{OnFull, ServeOptions};
 use crate::pipe_options::PipeOptions;
 use crate::refusal::Refusal;
 use image_model::Geometry;
@@ -55,6 +55,8 @@ pub struct Invocation<'a> {
     pub is_verbose: bool,
     /// Whether the plan waits while another process has locked the device.
     pub waits_for_lock: bool,
+    /// What becomes of a write of the device for which its disk has no space.
+    pub on_full: OnFull,
 }
 
 /// What is to be done. A path names a device's file, which the caller opens or makes.
@@ -100,6 +102,8 @@ pub enum Plan<'a> {
         path: &'a str,
         /// Whether it is said as JSON.
         is_json: bool,
+        /// Whether each group of the journal is told too.
+        is_deep: bool,
     },
     /// Runs a script from standard input on a simulated device.
     Rehearse {

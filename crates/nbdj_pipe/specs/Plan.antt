@@ -14,7 +14,7 @@ Suits (Serve path addresses status name options) extent = ⊥
 Suits (Status socket form) extent = ⊥
 Suits (Recover path is_json) extent = Unit {0}
 Suits (Upgrade path) extent = Unit {0}
-Suits (Check path is_json) extent = Unit {0}
+Suits (Check path is_json is_deep) extent = Unit {0}
 Suits (Rehearse course) extent = ⊥
 Suits (Refuse path refusal) extent = ⊥
 
@@ -26,7 +26,7 @@ IfPipe (Serve path addresses status name options) P = Unit {0}
 IfPipe (Status socket form) P = Unit {0}
 IfPipe (Recover path is_json) P = Unit {0}
 IfPipe (Upgrade path) P = Unit {0}
-IfPipe (Check path is_json) P = Unit {0}
+IfPipe (Check path is_json is_deep) P = Unit {0}
 IfPipe (Rehearse course) P = Unit {0}
 IfPipe (Refuse path refusal) P = Unit {0}
 
@@ -38,7 +38,7 @@ IfCheck (Serve path addresses status name options) P = Unit {0}
 IfCheck (Status socket form) P = Unit {0}
 IfCheck (Recover path is_json) P = Unit {0}
 IfCheck (Upgrade path) P = Unit {0}
-IfCheck (Check path is_json) P = P
+IfCheck (Check path is_json is_deep) P = P
 IfCheck (Rehearse course) P = Unit {0}
 IfCheck (Refuse path refusal) P = Unit {0}
 
@@ -50,7 +50,7 @@ IfFormat (Serve path addresses status name options) P = Unit {0}
 IfFormat (Status socket form) P = Unit {0}
 IfFormat (Recover path is_json) P = Unit {0}
 IfFormat (Upgrade path) P = Unit {0}
-IfFormat (Check path is_json) P = Unit {0}
+IfFormat (Check path is_json is_deep) P = Unit {0}
 IfFormat (Rehearse course) P = Unit {0}
 IfFormat (Refuse path refusal) P = Unit {0}
 
@@ -62,7 +62,7 @@ IfRecover (Serve path addresses status name options) P = Unit {0}
 IfRecover (Status socket form) P = Unit {0}
 IfRecover (Recover path is_json) P = P
 IfRecover (Upgrade path) P = Unit {0}
-IfRecover (Check path is_json) P = Unit {0}
+IfRecover (Check path is_json is_deep) P = Unit {0}
 IfRecover (Rehearse course) P = Unit {0}
 IfRecover (Refuse path refusal) P = Unit {0}
 
@@ -74,6 +74,6 @@ IfUpgrade (Serve path addresses status name options) P = Unit {0}
 IfUpgrade (Status socket form) P = Unit {0}
 IfUpgrade (Recover path is_json) P = Unit {0}
 IfUpgrade (Upgrade path) P = P
-IfUpgrade (Check path is_json) P = Unit {0}
+IfUpgrade (Check path is_json is_deep) P = Unit {0}
 IfUpgrade (Rehearse course) P = Unit {0}
 IfUpgrade (Refuse path refusal) P = Unit {0}

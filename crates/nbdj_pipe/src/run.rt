@@ -50,7 +50,7 @@ pub fn perform<D: Disk + Drop, R: Read, W: Write, E: Write>(
     // A check only reads.
     ensures checked { IfCheck plan.now (D.honest disk → IsOnlyRead (D.state disk) (D.state result.1)) }
 {
-    if let Plan::Check { path: _, is_json } = *plan {
+    if let Plan::Check { is_json, .. } = *plan {
         return check(alloc, disk, is_json, output, errors);
     }
     let (outcome, disk) = match *plan {

@@ -80,7 +80,7 @@ pub fn transmit<P, S: Serve<P>, R: Read, W: Write>(
 }
 
 // Room for what one read takes.
-fn empty_piece(alloc: Global) -> Result<Vec<u8>, AllocError>
+pub(crate) fn empty_piece(alloc: Global) -> Result<Vec<u8>, AllocError>
     ensures { IfOk result (λ piece. vec_len piece ≡ piece_bytes) }
 {
     vec![in alloc; 0; PIECE_BYTES]

@@ -21,7 +21,7 @@ use nbd_wire::{
 use std::io::Write;
 
 // If the replies that are due pass this many bytes they are written: 1 MiB.
-const MOST_DUE: usize = 1_048_576;
+pub(crate) const MOST_DUE: usize = 1_048_576;
 
 /// An export, as a session sees it. `P` is what an export keeps of one connection.
 pub trait Serve<P>: DataBuffers {
@@ -49,6 +49,9 @@ pub trait Serve<P>: DataBuffers {
     /// Whether the answer to a request with this head may keep its caller waiting. It decides when replies are written and
     /// nothing else.
     fn may_wait(&self, head: &RequestHead) -> bool;
+
+    /// It is told which requests it will serve next, in this order.
+    fn expect(&self, _requests: &[Request]) {}
 
     /// It is told that the handshake is over: requests come, or the client has ended the session.
     fn handshake_is_over(&self) {}
@@ -81,6 +84,7 @@ pub fn answer_all<P, S: Serve<P>, W: Write>(
     ensures none_due { OnOk result (due.new.items ≡ []) }
     ensures early { IfErr result IsEarly }
 {
+    export.expect(&requests);
     let mut requests = requests;
     requests.reverse();
     while let Some(request) = requests.pop() {
@@ -187,14 +191,14 @@ fn reply_to<P, S: Serve<P>>(
     export.serve(pass, request, flags)
 }
 
-fn is_thrown_away(head: &RequestHead) -> bool
+pub(crate) fn is_thrown_away(head: &RequestHead) -> bool
     ensures { result ≡ is_thrown_away head.now }
 {
     head.kind == WRITE && head.length > MAX_PAYLOAD
 }
 
 // Whether a READ asks for its bytes in one chunk.
-fn is_whole(head: &RequestHead) -> bool
+pub(crate) fn is_whole(head: &RequestHead) -> bool
     ensures { result ≡ is_whole head.now }
 {
     head.flags & CommandFlags::DF.bits() != 0

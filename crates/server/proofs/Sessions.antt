@@ -5,8 +5,12 @@ use Rattle.std.proofs.lemmas.Bool.Decides.{eqb_tells}
 use Rattle.std.proofs.lemmas.Grind.{merely}
 use Rattle.std.proofs.lemmas.List.{get_or-set_other}
 use Rattle.export.specs.Clients.{new_client_pass, new_client_passes}
+use Rattle.export.specs.Submits.{IsReplied}
 use Rattle.export_model.specs.OneLog.{Call}
 use Rattle.export_model.specs.declared.event.Event.{Event}
+use Rattle.export_model.specs.declared.event.Event.TheVariants.{Answered, Sent}
+use Rattle.export_model.specs.declared.step.Mode.{Mode}
+use Rattle.image_model.specs.Image.{Image}
 use Rattle.image_model.specs.declared.geometry.Geometry.{Geometry}
 use Rattle.marks.specs.Known.{PassState}
 use Rattle.nbd_wire.specs.Request.{Message}
@@ -16,7 +20,7 @@ use Rattle.negotiation.specs.Answered.{Offer}
 use Rattle.negotiation.specs.Serving.{IsServed}
 use Rattle.negotiation.specs.Talk.{AreSteps, Exchange, IsStep}
 use Rattle.negotiation.specs.declared.end.End.{End}
-use Rattle.server.specs.Sessions.{AreServed, HasCall, HasSessions, IsLogged, IsSession}
+use Rattle.server.specs.Sessions.{AreServed, HasCall, HasSessions, IsLogged, IsSession, IsShare}
 
 abbrev by_of : PassState → ℕ
 by_of pass = pass.client.by
@@ -88,20 +92,42 @@ module _ (allows : PassState → Message → SessionFlags → PassState → Repl
       )
 
 -- one session more
-pub session_more : (offer : Offer) (geometry : Geometry) (by now : ℕ) (earlier events : List Event) → now ≡ by → HasSessions offer geometry by earlier → IsSession offer geometry by earlier events
-    → HasSessions offer geometry now events
-session_more offer geometry by now earlier events same before session =
-    subst (λ (n : ℕ). HasSessions offer geometry n events) (sym same) (∥∥₁_map before (λ sessions. (suc sessions.0, (earlier, sessions.1, session))))
+pub session_more : (offer : Offer) (geometry : Geometry) (several : Bool) (by now : ℕ) (earlier events : List Event) → now ≡ by → HasSessions offer geometry several by earlier
+    → IsSession offer geometry by earlier events → HasSessions offer geometry several now events
+session_more offer geometry several by now earlier events same before session =
+    subst (λ (n : ℕ). HasSessions offer geometry several n events) (sym same) (∥∥₁_map before (λ sessions. (suc sessions.0, (earlier, sessions.1, inl session))))
+
+-- one share of a session more
+pub share_more : (offer : Offer) (geometry : Geometry) (several : Bool) (by now : ℕ) (earlier events : List Event) → now ≡ by → several ≡ true → HasSessions offer geometry several by earlier
+    → IsShare geometry by earlier events → HasSessions offer geometry several now events
+share_more offer geometry several by now earlier events same is before share =
+    subst (λ (n : ℕ). HasSessions offer geometry several n events) (sym same) (∥∥₁_map before (λ sessions. (suc sessions.0, (earlier, sessions.1, inr (is, share)))))
+
+-- a request got its reply, for one client
+pub replied_logged : (opening : ℕ) (first : Image) (Sure : Type 0 → Type 0) (kept : Mode) (geometry : Geometry) (by : ℕ) (request : Message) (flags : SessionFlags) (old new : PassState) (reply : Reply) → old.client.by ≡ by
+    → IsReplied opening first Sure request kept geometry flags old new reply → IsLogged geometry by old.client.mine request flags new.client.mine reply
+replied_logged opening first Sure kept geometry by request flags old new reply same is =
+    (subst (λ (n : ℕ). new.client.mine ≡ old.client.mine ++ Sent n request ∷ Answered n reply.answer ∷ []) same is.calls, is.judged)
+
+pub replied_share : (opening : ℕ) (first : Image) (Sure : Type 0 → Type 0) (kept : Mode) (geometry : Geometry) (by : ℕ) (request : Message) (flags : SessionFlags) (old new : PassState) (reply : Reply) → old.client.by ≡ by
+    → IsReplied opening first Sure request kept geometry flags old new reply → IsShare geometry by old.client.mine new.client.mine
+replied_share opening first Sure kept geometry by request flags old new reply same is = record {
+  request = request;
+  flags = flags;
+  reply = reply;
+  kind = is.kind;
+  logged = replied_logged opening first Sure kept geometry by request flags old new reply same is;
+}
 
 -- one client more
-pub served_more : (offer : Offer) (geometry : Geometry) (calls : List Call) (call : Call) → AreServed offer geometry calls → HasSessions offer geometry call.by call.events
-    → AreServed offer geometry (calls ++ call ∷ [])
-served_more offer geometry [] call before is = (is, tt)
-served_more offer geometry (first ∷ calls) call before is = (before.0, served_more offer geometry calls call before.1 is)
+pub served_more : (offer : Offer) (geometry : Geometry) (several : Bool) (calls : List Call) (call : Call) → AreServed offer geometry several calls → HasSessions offer geometry several call.by call.events
+    → AreServed offer geometry several (calls ++ call ∷ [])
+served_more offer geometry several [] call before is = (is, tt)
+served_more offer geometry several (first ∷ calls) call before is = (before.0, served_more offer geometry several calls call before.1 is)
 
 -- a client that has sent nothing
-pub none_yet : (offer : Offer) (geometry : Geometry) (by : ℕ) → HasSessions offer geometry by []
-none_yet offer geometry by = merely (zero, refl)
+pub none_yet : (offer : Offer) (geometry : Geometry) (several : Bool) (by : ℕ) → HasSessions offer geometry several by []
+none_yet offer geometry several by = merely (zero, refl)
 
 -- the calls have the ones that they had, and the one that was added
 pub still_has : (by : ℕ) (calls : List Call) (call : Call) → HasCall by calls → HasCall by (calls ++ call ∷ [])

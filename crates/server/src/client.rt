@@ -1,12 +1,24 @@
+ghost use Rattle.std.specs.Io.{ReadsAtMost};
+
+use crate::asked::hear;
 use crate::client_registry::ClientRegistry;
 use export::{Point, SyncPoints};
+use libc::net;
 use std::alloc::Global;
 use std::cell::Cell;
 use std::fmt::{self, Display, Formatter};
 use std::io::{self, ErrorKind, IoSlice, Read, Write};
 use std::net::{Shutdown, TcpStream};
+use std::os::fd::AsRawFd;
 use std::os::unix::net::UnixStream;
+use std::sync::atomic::{AtomicU32, Ordering};
 use std::time::Duration;
+
+// How often a host that has gone silent is asked before its client is dropped.
+const MOST_PROBES: u64 = 4;
+
+// The longest time that the system takes, in seconds.
+const LONGEST_SILENCE: u64 = 32_767;
 
 /// The socket of a client.
 #[derive(Drop)]
@@ -42,6 +54,30 @@ impl Client {
         }
     }
 
+    /// Has the system drop a TCP client whose host hasn't answered for so long, or which has taken no reply for so long. If the system
+    /// refuses, a client that has vanished stays.
+    pub(crate) fn drop_if_silent(&self, limit: Duration) {
+        let Client::Tcp(stream) = self else {
+            return;
+        };
+        let seconds = limit.as_secs().clamp(1, LONGEST_SILENCE);
+        let probes = seconds.saturating_sub(1).clamp(1, MOST_PROBES);
+        let between = (seconds / (2 * MOST_PROBES)).max(1);
+        let before = seconds.saturating_sub(probes * between).max(1);
+        let socket = stream.as_raw_fd();
+        let (probes, between, before) = (value_of(probes), value_of(between), value_of(before));
+        let (millis, on) = (value_of(seconds * 1_000), value_of(1));
+        let _ = unsafe { net::setsockopt(socket, net::IPPROTO_TCP, net::TCP_KEEPCNT, &probes, 4) };
+        let _ = unsafe {
+            net::setsockopt(socket, net::IPPROTO_TCP, net::TCP_KEEPINTVL, &between, 4)
+        };
+        let _ = unsafe { net::setsockopt(socket, net::IPPROTO_TCP, net::TCP_KEEPIDLE, &before, 4) };
+        let _ = unsafe {
+            net::setsockopt(socket, net::IPPROTO_TCP, net::TCP_USER_TIMEOUT, &millis, 4)
+        };
+        let _ = unsafe { net::setsockopt(socket, net::SOL_SOCKET, net::SO_KEEPALIVE, &on, 4) };
+    }
+
     // Sends what it takes of this piece.
     fn send(&self, piece: &[u8]) -> io::Result<usize> {
         match self {
@@ -75,29 +111,80 @@ impl Client {
     }
 }
 
+// A number as the value of a socket's option.
+fn value_of(number: u64) -> [u8; 16] {
+    let mut value = [0; 16];
+    let number = u32::try_from(number).unwrap_or(u32::MAX);
+    value[..4].copy_from_slice(&number.to_ne_bytes());
+    value
+}
+
 /// What a client sends, until its session is ended.
 #[derive(Drop)]
 pub(crate) struct Input<'a> {
     pub client: &'a Client,
     pub registry: &'a ClientRegistry,
+    /// How many requests of the client wait while it may be silent.
+    pub waiting_count: &'a AtomicU32,
+    /// Whether the handshake is over.
+    pub is_replying: &'a Cell<bool>,
+    /// What it has sent in the handshake, up to some length.
+    pub heard: Vec<u8>,
+}
+
+impl<'a> Input<'a> {
+    /// The same, after the handshake.
+    pub(crate) fn for_requests(&self, alloc: Global) -> Input<'a> {
+        Input {
+            client: self.client,
+            registry: self.registry,
+            waiting_count: self.waiting_count,
+            is_replying: self.is_replying,
+            heard: Vec::new(alloc),
+        }
+    }
+
+    // Reads once.
+    fn receive(&mut self, buf: &mut [u8]) -> io::Result<usize>
+        ensures { ReadsAtMost result buf.new }
+    {
+        let count = match self.client {
+            Client::Tcp(stream) => {
+                let mut stream = stream;
+                stream.read(buf)?
+            }
+            Client::Unix(stream) => {
+                let mut stream = stream;
+                stream.read(buf)?
+            }
+        };
+        if !self.is_replying.get() {
+            hear(&mut self.heard, buf.get(..count).unwrap_or(&[]));
+        }
+        Ok(count)
+    }
 }
 
 impl<'a> Read for Input<'a> {
     fn read(&mut self, buf: &mut [u8]) -> io::Result<usize> {
-        if self.registry.is_closed() {
-            return Ok(0);
-        }
-        match self.client {
-            Client::Tcp(stream) => {
-                let mut stream = stream;
-                stream.read(buf)
+        for _ in 0..u64::MAX {
+            if self.registry.is_closed() {
+                return Ok(0);
             }
-            Client::Unix(stream) => {
-                let mut stream = stream;
-                stream.read(buf)
+            match self.receive(buf) {
+                // A client that waits for a reply may be silent.
+                Err(error) if is_timeout(&error) && self.waiting_count.load(Ordering::SeqCst) > 0 =>
+                    {}
+                received => return received,
             }
         }
+        Ok(0)
     }
+}
+
+// Whether nothing has come in time.
+fn is_timeout(error: &io::Error) -> bool {
+    matches!(error.kind(), ErrorKind::WouldBlock | ErrorKind::TimedOut)
 }
 
 // The most bytes that are held: the head of a reply, and short replies before it.

@@ -1,8 +1,10 @@
 //! The server: clients of one image over sockets, each served by a worker, with a flusher and a checkpointer.
 #![tactic(auto)]
 
+mod asked;
 mod client;
 mod client_registry;
+mod in_flight;
 mod listener;
 mod name;
 mod request_handler;

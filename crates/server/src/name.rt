@@ -4,10 +4,14 @@ use std::marker::Brand;
 /// Which server it is: its export, and what clients are offered of that. What lies under a lock of the server can name neither, so
 /// both are picked where it is made.
 pub(crate) trait ServerName: ExportName {
+    ghost use Rattle.std.specs.Prelude.{Bool};
     ghost use Rattle.negotiation.specs.Answered.{Offer};
 
     /// What clients are offered.
     ghost offer: { Offer };
+
+    /// Whether a session may have several requests in progress.
+    ghost several: { Bool };
 }
 
 /// The member that stands here is the one that nobody picked.
@@ -19,4 +23,6 @@ impl ServerName for Brand {
       name = [];
       flushes = false;
     } };
+
+    ghost several = { false };
 }

@@ -60,6 +60,8 @@ pub struct RequestHandler<
     pub name: OfferedName<'a>,
     // The buffer of the last short READ, for the next one.
     pub buffer: &'a Cell<Option<Vec<u8>>>,
+    // How many READs of all clients had found blocks missing when requests came last.
+    pub misses: &'a Cell<u64>,
 }
 
 impl<
@@ -110,7 +112,11 @@ impl<
     }
 
     fn may_wait(&self, head: &RequestHead) -> bool {
-        self.waits_for_store(head) || (self.loss_age.is_some() && is_write(head))
+        self.waits_for_store(head) || self.may_hold_up(head)
+    }
+
+    fn expect(&self, requests: &[Request]) {
+        self.prefetch(requests);
     }
 
     fn handshake_is_over(&self) {
@@ -124,27 +130,18 @@ impl<
         let head = request.head();
         self.count(&request, flags);
         self.wait_for_older(&head);
-        let began = if self.watch.is_timed() || self.loss_age.is_some() {
-            Instant::now(self.rt).ok()
-        } else {
-            None
-        };
+        let began = self.time();
         let mut points = self.watch;
         let request = self.with_buffer(request);
         let reply = self
             .export
             .submit(self.rt, &mut points, pass, request, flags);
-        let delay = self.slow_down(&head, began);
-        if let Some(began) = began {
-            self.tell_served(head, &reply, began, delay);
-        }
+        self.end_served(head, &reply, began);
         reply
     }
 
     fn reuse(&self, reply: Reply) {
-        if let Some(buffer) = self.export.reuse(self.rt, reply) {
-            self.buffer.set(Some(buffer));
-        }
+        self.keep_buffer(reply);
     }
 }
 
@@ -157,9 +154,51 @@ impl<
     R: Wait + Clock,
     L: SyncPoints + Watch + Copy,
 > RequestHandler<'a, B, D, H, T, R, L> {
+    // Has the system begin to read for the READs after the first, if one has found blocks missing lately.
+    pub(crate) fn prefetch(&self, requests: &[Request]) {
+        let misses = self.export.misses();
+        if misses == self.misses.replace(misses) {
+            return;
+        }
+        for request in requests.iter().skip(1) {
+            let head = request.head();
+            if head.kind == READ {
+                self.export.prefetch(&head);
+            }
+        }
+    }
+
+    // When a request is begun, where that matters.
+    pub(crate) fn time(&self) -> Option<Instant> {
+        if self.watch.is_timed() || self.loss_age.is_some() {
+            return Instant::now(self.rt).ok();
+        }
+        None
+    }
+
+    // Whether a write with this head may wait while another one is pending for too long.
+    pub(crate) fn may_hold_up(&self, head: &RequestHead) -> bool {
+        self.loss_age.is_some() && is_write(head)
+    }
+
+    // A request has its reply: its client may be slowed down, and the request is told.
+    pub(crate) fn end_served(&self, head: RequestHead, reply: &Reply, began: Option<Instant>) {
+        let delay = self.slow_down(&head, began);
+        if let Some(began) = began {
+            note_served(self.rt, self.watch, self.number, head, reply, began, delay);
+        }
+    }
+
+    // Keeps the buffer of a reply that isn't needed any more.
+    pub(crate) fn keep_buffer(&self, reply: Reply) {
+        if let Some(buffer) = self.export.reuse(self.rt, reply) {
+            self.buffer.set(Some(buffer));
+        }
+    }
+
     // The same request. A READ gets the buffer of the one before it, if that is long enough, or a long one from the export: its bytes
     // are copied into the memory that it brings, so no memory for them is taken under the order's lock.
-    fn with_buffer(&self, request: Request) -> Request
+    pub(crate) fn with_buffer(&self, request: Request) -> Request
         ensures { result ≡ request }
     {
         let head = request.head();
@@ -193,9 +232,12 @@ impl<
     }
 
     // Has a write wait while another one is pending for too long.
-    fn wait_for_older(&self, head: &RequestHead) {
+    pub(crate) fn wait_for_older(&self, head: &RequestHead) {
         match self.loss_age {
-            Some(limit) if is_write(head) => self.export.wait_while_older(self.rt, limit),
+            Some(limit) if is_write(head) => {
+                let mut watch = self.watch;
+                self.export.wait_while_older(self.rt, &mut watch, limit);
+            }
             _ => {}
         }
     }
@@ -216,29 +258,8 @@ impl<
         }
     }
 
-    // Tells of a request that has its answer.
-    fn tell_served(
-        &self,
-        head: RequestHead,
-        reply: &Reply,
-        began: Instant,
-        delay: Option<Duration>,
-    ) {
-        let refused = match &reply.answer {
-            Answer::Refused(errno) => Some(*errno),
-            _ => None,
-        };
-        self.watch.note(Event::Served {
-            client: self.number,
-            head,
-            refused,
-            took: began.elapsed(self.rt).unwrap_or(Duration::ZERO),
-            delay,
-        });
-    }
-
     // Counts a request, and tells of the first one.
-    fn count(&self, request: &Request, flags: &SessionFlags) {
+    pub(crate) fn count(&self, request: &Request, flags: &SessionFlags) {
         let mut traffic = self.traffic.get();
         if traffic.requests == 0 {
             self.watch.note(Event::Agreed {
@@ -261,6 +282,29 @@ impl<
         }
         self.traffic.set(traffic);
     }
+}
+
+// Tells of a request that has its answer.
+pub(crate) fn note_served<R: Clock, L: Watch + Copy>(
+    rt: &R,
+    watch: L,
+    client: u64,
+    head: RequestHead,
+    reply: &Reply,
+    began: Instant,
+    delay: Option<Duration>,
+) {
+    let refused = match &reply.answer {
+        Answer::Refused(errno) => Some(*errno),
+        _ => None,
+    };
+    watch.note(Event::Served {
+        client,
+        head,
+        refused,
+        took: began.elapsed(rt).unwrap_or(Duration::ZERO),
+        delay,
+    });
 }
 
 // Whether a request with this head asks for a write command.

@@ -1,4 +1,4 @@
-ghost use Rattle.std.specs.Prelude.{◌≡◌, ◌+◌, [], false, IfErr, IfOk, IsOk, IsTrue, List, OnOk, Some, length, vec_len};
+ghost use Rattle.std.specs.Prelude.{◌≡◌, ◌+◌, [], false, nat_lt, ◌*◌, IfErr, IfOk, IsOk, IsTrue, List, OnOk, Some, length, vec_len};
 ghost use Rattle.device_image.specs.Stands.{StandsFor};
 ghost use Rattle.disk_model.specs.Disk.{LeavesOnly};
 ghost use Rattle.export.specs.Clients.{new_client_passes};
@@ -46,7 +46,8 @@ use std::thread::{self, Scope, Threads};
 /// trusted. Whatever a crash may leave in the end of a trusted device has all that the log covers, and at Ok all of the history. What the log has
 /// of the clients in its list comes from sessions over streams, as `serve_session` has them: the first of the requests that were handed over, with
 /// the answers that they got. At Ok the list has all clients, so the log has nothing else. A worker counts as one client, whatever sockets it
-/// serves. Which bytes a socket gave and took is said by no clause.
+/// serves. With several requests in progress each of its passes is a client, of which the list says only that each request has one
+/// answer, of its kind, which the rules allow. Which bytes a socket gave and took is said by no clause.
 pub fn serve<D, H, R, I, G>(
     rt: &R,
     alloc: Global,
@@ -69,7 +70,7 @@ where
         × LeavesHistory (D.state device.keeper.disk) (D.state result.1) device.keeper.count (image_found D.state device.keeper) history (device.keeper.count + length history)) }
     ensures log { (history : List Change) × (roster : RosterState)
         × KeepsLog (IsTrustedWith D.state D.honest H.vouches device.keeper device.second_handle (image_found D.state device.keeper)) options.mode (IsTrusted D.state D.honest device.keeper (image_found D.state device.keeper)) (D.state device.keeper.disk) (D.state result.1) device.keeper.count (image_found D.state device.keeper) history roster
-        × ∥ AreServed (offered device.keeper.geometry name.entry.bytes.now (flush_waits options.mode)) device.keeper.geometry roster.calls ∥₁
+        × ∥ AreServed (offered device.keeper.geometry name.entry.bytes.now (flush_waits options.mode)) device.keeper.geometry (nat_lt 1 options.in_flight) roster.calls ∥₁
         × OnOk result.0 (HasAll roster × (IsTrusted D.state D.honest device.keeper (image_found D.state device.keeper)
         → LeavesHistory (D.state device.keeper.disk) (D.state result.1) device.keeper.count (image_found D.state device.keeper) history (device.keeper.count + length history))) }
     ensures honest { IsTrusted D.state D.honest device.keeper (image_found D.state device.keeper) → D.honest result.1 }
@@ -166,7 +167,7 @@ where
         × LeavesHistory (D.state device.keeper.disk) (D.state result.1) device.keeper.count (image_found D.state device.keeper) history (device.keeper.count + length history)) }
     ensures log { T.logs → (history : List Change) × (roster : RosterState)
         × KeepsLog T.trusted T.mode (IsTrusted D.state D.honest device.keeper (image_found D.state device.keeper)) (D.state device.keeper.disk) (D.state result.1) device.keeper.count (image_found D.state device.keeper) history roster
-        × ∥ AreServed (offered device.keeper.geometry name.entry.bytes.now (flush_waits options.mode)) device.keeper.geometry roster.calls ∥₁
+        × ∥ AreServed (offered device.keeper.geometry name.entry.bytes.now (flush_waits options.mode)) device.keeper.geometry (nat_lt 1 options.in_flight) roster.calls ∥₁
         × OnOk result.0 (HasAll roster × (IsTrusted D.state D.honest device.keeper (image_found D.state device.keeper)
         → LeavesHistory (D.state device.keeper.disk) (D.state result.1) device.keeper.count (image_found D.state device.keeper) history (device.keeper.count + length history))) }
     ensures honest { IsTrusted D.state D.honest device.keeper (image_found D.state device.keeper) → D.honest result.1 }
@@ -218,10 +219,11 @@ where
     requires geometry { device.keeper.geometry ≡ B.geometry }
     requires log { T.logs → IsLogOf B.opening B.image B.vouches B.trusted options.mode T.trusted T.mode T.image }
     requires offers { offered device.keeper.geometry name.bytes.now (flush_waits options.mode) ≡ B.offer }
+    requires several { nat_lt 1 options.in_flight ≡ B.several }
     ensures left { B.trusted → (history : List Change) × LeavesHistory B.start (D.state result.1) B.opening B.image history B.opening }
     ensures stored { OnOk result.0 (B.trusted → (history : List Change) × LeavesHistory B.start (D.state result.1) B.opening B.image history (B.opening + length history)) }
     ensures log { T.logs → (history : List Change) × (roster : RosterState) × KeepsLog T.trusted T.mode B.trusted B.start (D.state result.1) B.opening B.image history roster
-        × ∥ AreServed B.offer B.geometry roster.calls ∥₁
+        × ∥ AreServed B.offer B.geometry B.several roster.calls ∥₁
         × OnOk result.0 (HasAll roster × (B.trusted → LeavesHistory B.start (D.state result.1) B.opening B.image history (B.opening + length history))) }
     ensures honest { B.trusted → D.honest result.1 }
     ensures faults { OnOk result.0 (D.faults result.1 ≡ D.faults device.keeper.disk) }
@@ -254,7 +256,7 @@ fn end_of(served: Result<(), Refusal>, has_failed: bool, is_stored: bool) -> Res
     Ok(())
 }
 
-// The export that the options ask for, a pass for each worker and one more, and one for the end.
+// The export that the options ask for, a pass for each request in progress of each worker and one more, and one for the end.
 fn open_export<B, D, H, T>(
     alloc: Global,
     device: OpenDevice<D, H, T>,
@@ -274,9 +276,9 @@ where
     requires geometry { device.keeper.geometry ≡ B.geometry }
     requires log { T.logs → IsLogOf B.opening B.image B.vouches B.trusted options.now.mode T.trusted T.mode T.image }
     ensures mode { IfOk result (λ made. made.0.mode ≡ options.now.mode) }
-    ensures passes { IfOk result (λ made. vec_len made.1 ≡ options.now.workers + 1) }
-    ensures new { IfOk result (λ made. made.1.items ≡ new_client_passes device.keeper.count (options.now.workers + 1)) }
-    ensures last { IfOk result (λ made. made.2 ≡ record { pass = new_pass device.keeper.count; roster = record { made = options.now.workers + 1; calls = [] } }) }
+    ensures passes { IfOk result (λ made. vec_len made.1 ≡ options.now.workers * options.now.in_flight + 1) }
+    ensures new { IfOk result (λ made. made.1.items ≡ new_client_passes device.keeper.count (options.now.workers * options.now.in_flight + 1)) }
+    ensures last { IfOk result (λ made. made.2 ≡ record { pass = new_pass device.keeper.count; roster = record { made = options.now.workers * options.now.in_flight + 1; calls = [] } }) }
     ensures back { IfErr result (λ disk. disk ≡ device.keeper.disk) }
 {
     Export::<B, D, H, T>::open(
@@ -284,7 +286,7 @@ where
         device,
         options.frames,
         options.mode,
-        options.workers as usize + 1,
+        options.workers as usize * options.in_flight as usize + 1,
     )
 }
 
@@ -304,8 +306,9 @@ where
     T: Trust + Send + Sync,
     R: Threads + Wait + Clock + Sync,
     G: SyncPoints + Watch + Copy + Send + Sync,
-    requires { offered export.now.geometry name.bytes.now (flush_waits export.now.mode) ≡ B.offer }
-    ensures served { ∥ AreServed B.offer B.geometry result.1.roster.calls ∥₁ }
+    requires offers { offered export.now.geometry name.bytes.now (flush_waits export.now.mode) ≡ B.offer }
+    requires several { nat_lt 1 options.in_flight ≡ B.several }
+    ensures served { ∥ AreServed B.offer B.geometry B.several result.1.roster.calls ∥₁ }
     ensures all { OnOk result.0 (HasAll result.1.roster) }
 {
     if let Some(limit) = options.limits.pending() {
@@ -367,7 +370,7 @@ where
     D: Disk + Send,
     H: ReadUnlocked + Send + Sync,
     T: Trust + Send + Sync,
-    R: Wait + Clock + Sync,
+    R: Threads + Wait + Clock + Sync,
     G: SyncPoints + Watch + Copy + Send + Sync,
 {
     // Starts the threads, and tells that clients are served. If not as many workers can be started, fewer clients are served at a time;
@@ -420,8 +423,9 @@ where
         }
         // The flusher ends once all passes have left.
         for _ in started..self.options.workers {
-            if let Some((slot, pass)) = self.pool.take_pass(self.rt) {
-                self.retire(slot, pass);
+            let count = self.options.in_flight;
+            if let Some((slot, passes)) = self.pool.take_passes(self.rt, self.export, count) {
+                self.retire(slot, passes);
             }
         }
         // Where not as many can be made, fewer ask for figures at a time.

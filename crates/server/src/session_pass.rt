@@ -1,27 +1,40 @@
-//! The passes of workers: all that the log has of a pass's client comes from its sessions.
-ghost use Rattle.std.specs.Prelude.{◌≡◌, ◌≤◌, ◌<◌, ℕ, [], false, true, get_or, length, vec_len, IfSome, IsTrue};
+//! The passes of workers: all that the log has of a pass's client comes from its sessions, or is requests of them with their answers.
+ghost use Rattle.std.specs.Prelude.{◌≡◌, ◌≢◌, ◌⊎◌, ◌≤◌, ◌<◌, ℕ, [], false, true, get_or, length, vec_len, IfErr, IfOk, IfSome, IsTrue};
 ghost use mathlib.Core.List.{IsPrefix};
+ghost use Rattle.export.specs.Begun.{IsBegun};
 ghost use Rattle.export.specs.Clients.{new_client_passes};
+ghost use Rattle.export.specs.Submits.{IsReplied};
 ghost use Rattle.export_model.specs.Log.{flush_waits};
-ghost use Rattle.marks.specs.Known.{known};
+ghost use Rattle.export_model.specs.declared.step.Mode.{Mode};
+ghost use Rattle.marks.specs.Known.{PassState, known};
+ghost use Rattle.nbd_wire.specs.Reply.{IsAnswerTo};
+ghost use Rattle.nbd_wire.specs.Request.{Message};
+ghost use Rattle.nbd_wire.specs.declared.error.Errno.TheVariants as Errno;
+ghost use Rattle.nbd_wire.specs.declared.message.Answer.TheVariants as Answer;
+ghost use Rattle.nbd_wire.specs.declared.message.SessionFlags.{SessionFlags};
 ghost use Rattle.negotiation.specs.Answered.{offered};
 ghost use Rattle.negotiation.specs.Serving.{IsServed};
-ghost use Rattle.server.specs.Sessions.{AreServed, HasAll, HasCall, HasSessions, IsLogged};
+ghost use Rattle.server.specs.Sessions.{AreServed, HasAll, HasCall, HasSessions, IsLogged, WaitsOn};
+ghost use Rattle.shared_store.specs.Orders.{Trusting};
 
 use crate::name::ServerName;
 use crate::request_handler::RequestHandler;
 use crate::watch::Watch;
 use disk_model::Disk;
-use export::{ClientPass, Export, ExportFigures, LastPass, ReadUnlocked, RetiredPass, SyncPoints};
+use export::{
+    ClientPass, Export, ExportFigures, Finished, LastPass, ReadUnlocked, RetiredPass, SyncPoints,
+    WaitingPass,
+};
 use marks::Trust;
+use nbd_wire::{Reply, Request, SessionFlags};
 use negotiation::{End, serve_session};
 use std::alloc::Global;
 use std::io::{Read, Write};
 use std::rt::Clock;
 use std::sync::Wait;
 
-/// The most passes of a server: one for each of 16 workers, and one for `nbdj status --store`.
-const MOST_PASSES: usize = 17;
+/// The most passes of a server: one for each of 16 requests in progress of each of 16 workers, and one for `nbdj status --store`.
+const MOST_PASSES: usize = 257;
 
 /// The pass of a worker, which serves one session after another.
 #[derive(Drop)]
@@ -29,9 +42,9 @@ pub(crate) struct SessionPass<B: ServerName> {
     pass: ClientPass<B>,
     // The number of its client in the proofs' log.
     client_number: usize,
-    ghost in_range: { client_number < 17 },
+    ghost in_range: { client_number < 257 },
     ghost by: { pass.client.by ≡ client_number },
-    ghost served: { HasSessions B.offer B.geometry pass.client.by pass.client.mine },
+    ghost served: { HasSessions B.offer B.geometry B.several pass.client.by pass.client.mine },
 }
 
 impl<B: ServerName> SessionPass<B> {
@@ -57,6 +70,40 @@ impl<B: ServerName> SessionPass<B> {
         serve_session(alloc, input, output, handler, &mut self.pass)
     }
 
+    /// Begins a request, except a DISC, of a session that may have several in progress: the reply, unless the request waits until
+    /// something is stored.
+    pub(crate) fn begin<D: Disk, H: ReadUnlocked, T: Trust, R: Wait + Clock, G: SyncPoints>(
+        self,
+        rt: &R,
+        points: &mut G,
+        export: &Export<B, D, H, T>,
+        request: Request,
+        flags: &SessionFlags,
+    ) -> Result<(SessionPass<B>, Reply), WaitingSessionPass<B, T>>
+        requires several { B.several ≡ true }
+        requires kind { request.head.kind ≢ 2 }
+        ensures cookie { IfOk result (λ begun. begun.1.cookie ≡ request.head.cookie) }
+        ensures kind { IfOk result (λ begun. IsAnswerTo flags.now request.head.kind begun.1.answer) }
+        ensures logged { IfOk result (λ begun. IsLogged B.geometry self.client_number self.pass.client.mine request flags.now begun.0.pass.client.mine begun.1) }
+        ensures waits { IfErr result (λ waiting. (waiting.client_number ≡ self.client_number) × IsBegun B.opening B.image (Trusting B.opening B.image B.vouches B.trusted)
+            request export.now.mode B.geometry flags.now self.pass waiting.pass) }
+    {
+        let client_number = self.client_number;
+        match export.begin(rt, points, self.pass, request, flags) {
+            Ok((pass, reply)) => Ok((
+                SessionPass {
+                    pass,
+                    client_number,
+                },
+                reply,
+            )),
+            Err(pass) => Err(WaitingSessionPass {
+                pass,
+                client_number,
+            }),
+        }
+    }
+
     /// Stores what is pending, and waits for it.
     pub(crate) fn flush<D: Disk, H: ReadUnlocked, T: Trust, R: Wait + Clock, G: SyncPoints>(
         &mut self,
@@ -80,14 +127,64 @@ impl<B: ServerName> SessionPass<B> {
     }
 }
 
+/// The pass of a request that waits until something is stored, while its session goes on.
+#[derive(Drop)]
+pub(crate) struct WaitingSessionPass<B: ServerName, T: Trust> {
+    pass: WaitingPass<B, T>,
+    client_number: usize,
+    ghost in_range: { client_number < 257 },
+    ghost several: { B.several ≡ true },
+    ghost begun: { WaitsOn B.opening B.image (Trusting B.opening B.image B.vouches B.trusted) B.offer B.geometry B.several client_number pass },
+}
+
+impl<B: ServerName, T: Trust> WaitingSessionPass<B, T> {
+    /// The number that has to be durable before the request is answered.
+    pub(crate) fn number(&self) -> u64
+        ensures { result ≡ self.now.pass.number }
+    {
+        self.pass.number()
+    }
+
+    /// Waits until the request can be answered: its reply, and the durable number that its pass then knows.
+    pub(crate) fn finish<D: Disk, H: ReadUnlocked, R: Wait + Clock, G: SyncPoints>(
+        self,
+        rt: &R,
+        export: &Export<B, D, H, T>,
+        points: &mut G,
+    ) -> (SessionPass<B>, Reply, u64)
+        ensures replied { (old : PassState) (request : Message) (kept : Mode) (flags : SessionFlags) → IsBegun B.opening B.image (Trusting B.opening B.image B.vouches B.trusted)
+            request kept B.geometry flags old self.pass → IsReplied B.opening B.image (Trusting B.opening B.image B.vouches B.trusted)
+            request kept B.geometry flags old result.0.pass result.1 }
+        ensures cookie { result.1.cookie ≡ self.pass.cookie }
+        ensures answer { (result.1.answer ≡ Answer.Done) ⊎ (result.1.answer ≡ Answer.Refused Errno.Io) }
+        ensures durable { result.2 ≡ result.0.pass.durable }
+    {
+        let client_number = self.client_number;
+        let finished = export.finish(rt, points, self.pass);
+        let Finished {
+            pass,
+            reply,
+            durable,
+        } = finished;
+        (
+            SessionPass {
+                pass,
+                client_number,
+            },
+            reply,
+            durable,
+        )
+    }
+}
+
 /// The pass of a worker that serves no more sessions.
 #[derive(Drop)]
 pub(crate) struct RetiredSessionPass<B: ServerName> {
     pass: RetiredPass<B>,
     client_number: usize,
-    ghost in_range: { client_number < 17 },
+    ghost in_range: { client_number < 257 },
     ghost by: { pass.client.by ≡ client_number },
-    ghost served: { HasSessions B.offer B.geometry pass.client.by pass.client.mine },
+    ghost served: { HasSessions B.offer B.geometry B.several pass.client.by pass.client.mine },
 }
 
 impl<B: ServerName> RetiredSessionPass<B> {
@@ -112,13 +209,13 @@ impl<B: ServerName> RetiredSessionPass<B> {
 #[derive(Drop)]
 pub(crate) struct NewPasses<B: ServerName> {
     passes: Vec<ClientPass<B>>,
-    ghost few: { vec_len passes ≤ 17 },
+    ghost few: { vec_len passes ≤ 257 },
     ghost new: { passes.items ≡ new_client_passes B.opening (length passes.items) },
 }
 
 impl<B: ServerName> NewPasses<B> {
     pub(crate) fn new(passes: Vec<ClientPass<B>>) -> NewPasses<B>
-        requires few { vec_len passes ≤ 17 }
+        requires few { vec_len passes ≤ 257 }
         requires new { passes.items ≡ new_client_passes B.opening (length passes.items) }
     {
         NewPasses { passes }
@@ -148,16 +245,16 @@ pub(crate) struct LastSessionPass<B: ServerName> {
     // How many passes there were, and which of them have joined it.
     made: usize,
     joined: [bool; MOST_PASSES],
-    ghost made_few: { made ≤ 17 },
+    ghost made_few: { made ≤ 257 },
     ghost roster: { last.roster.made ≡ made },
     ghost has: { (by : ℕ) → get_or joined by false ≡ true → ∥ HasCall by last.roster.calls ∥₁ },
-    ghost served: { ∥ AreServed B.offer B.geometry last.roster.calls ∥₁ },
+    ghost served: { ∥ AreServed B.offer B.geometry B.several last.roster.calls ∥₁ },
 }
 
 impl<B: ServerName> LastSessionPass<B> {
     /// The last pass of an export with this many others; none has joined.
     pub(crate) fn new(last: LastPass<B>, made: usize) -> LastSessionPass<B>
-        requires few { made ≤ 17 }
+        requires few { made ≤ 257 }
         requires made { last.roster.made ≡ made }
         requires none { last.roster.calls ≡ [] }
     {
@@ -211,7 +308,7 @@ impl<B: ServerName> LastSessionPass<B> {
 
     /// What the export is closed with, and whether all passes have joined it.
     pub(crate) fn into_last(self) -> (LastPass<B>, bool)
-        ensures served { ∥ AreServed B.offer B.geometry result.0.roster.calls ∥₁ }
+        ensures served { ∥ AreServed B.offer B.geometry B.several result.0.roster.calls ∥₁ }
         ensures all { IsTrue result.1 → HasAll result.0.roster }
     {
         let has_all = self.has_all();

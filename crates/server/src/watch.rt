@@ -33,6 +33,11 @@ pub enum Event<'a> {
     Unaccepted {
         error: &'a io::Error,
     },
+    /// A client's session is over before anything was agreed on: the last name of an export that it asked for.
+    Unagreed {
+        client: u64,
+        name: &'a [u8],
+    },
     /// A client's first request has come, after this was agreed on.
     Agreed {
         client: u64,

@@ -1,12 +1,14 @@
-ghost use Rattle.std.specs.Prelude.{◌≡◌, ◌≤◌, ℕ, ◌-◌, [], true, length, nat_lt, vec_len, IsTrue};
+ghost use Rattle.std.specs.Prelude.{◌≡◌, ◌≤◌, ◌<◌, ℕ, ◌-◌, [], true, length, nat_lt, vec_len, IsTrue};
 ghost use Rattle.export.specs.Clients.{new_client_passes};
 ghost use Rattle.export_model.specs.Log.{flush_waits};
 ghost use Rattle.negotiation.specs.Answered.{offered};
 ghost use Rattle.server.specs.Sessions.{AreServed, HasAll};
 ghost use Rattle.server.specs.declared.worker.Sessions.TheVariants as Sessions;
 
+use crate::asked::last_name;
 use crate::client::{Client, Input, Output, WatchedOutput};
 use crate::client_registry::{ClientRegistry, Session};
+use crate::in_flight::{InFlight, Reader, Reading, read_all};
 use crate::name::ServerName;
 use crate::request_handler::RequestHandler;
 use crate::session_pass::{LastSessionPass, NewPasses, RetiredSessionPass, SessionPass};
@@ -15,12 +17,15 @@ use disk_model::Disk;
 use export::{ClientPass, Export, ExportFigures, LastPass, ReadUnlocked, SyncPoints};
 use front_end::{OnFault, ServeOptions, WhenFull};
 use marks::Trust;
-use negotiation::{End, OfferedName};
+use negotiation::{End, OfferedName, Transmission};
 use std::alloc::Global;
 use std::cell::Cell;
 use std::io::ErrorKind;
+use std::mem;
 use std::rt::Clock;
+use std::sync::atomic::AtomicU32;
 use std::sync::{Mutex, Wait};
+use std::thread::Threads;
 
 // How many sessions may still begin.
 #[derive(Drop)]
@@ -46,6 +51,14 @@ impl Sessions {
             }
         }
     }
+}
+
+/// The passes of a worker: one for each request that its client may have in progress.
+#[derive(Drop)]
+pub(crate) struct WorkerPasses<B: ServerName> {
+    // None only while a session uses it.
+    first: Option<SessionPass<B>>,
+    others: Vec<SessionPass<B>>,
 }
 
 /// Where the workers of a server get their passes and their clients.
@@ -74,7 +87,7 @@ impl<'a, B: ServerName> WorkerPool<'a, B> {
         last: LastPass<B>,
         sessions: u64,
     ) -> WorkerPool<'a, B>
-        requires few { vec_len passes ≤ 17 }
+        requires few { vec_len passes ≤ 257 }
         requires passes { passes.items ≡ new_client_passes B.opening (length passes.items) }
         requires made { last.roster.made ≡ vec_len passes }
         requires none { last.roster.calls ≡ [] }
@@ -102,29 +115,63 @@ impl<'a, B: ServerName> WorkerPool<'a, B> {
         }
     }
 
-    /// A pass that no worker has yet, and the slot for its clients.
-    pub(crate) fn take_pass<R: Wait>(&self, rt: &R) -> Option<(usize, SessionPass<B>)> {
-        let mut passes = self.passes.lock(rt);
-        match passes.take() {
-            Some(pass) => Some((passes.len(), pass)),
-            None => None,
+    /// The passes of a worker that has none yet, and the slot for its clients. They are `count`, or one if memory is refused.
+    pub(crate) fn take_passes<D: Disk, H: ReadUnlocked, T: Trust, R: Wait>(
+        &self,
+        rt: &R,
+        export: &Export<B, D, H, T>,
+        count: u32,
+    ) -> Option<(usize, WorkerPasses<B>)> {
+        let mut new = self.passes.lock(rt);
+        let first = new.take()?;
+        let mut others = Vec::new(self.alloc);
+        let has_room = others.reserve(count as usize).is_ok();
+        for _ in 1..count {
+            let Some(pass) = new.take() else {
+                break;
+            };
+            if !has_room {
+                self.join(rt, export, pass);
+            } else if let Err(refused) = others.push(pass) {
+                self.join(rt, export, refused.value);
+            }
         }
+        let slot = new.len().checked_div(count as usize).unwrap_or(0);
+        let first = Some(first);
+        Some((slot, WorkerPasses { first, others }))
     }
 
-    /// Takes back the pass of a slot whose worker takes no more clients; whether it was the last one.
+    /// Takes back the passes of a slot whose worker takes no more clients; whether they were the last ones.
     pub(crate) fn retire<D: Disk, H: ReadUnlocked, T: Trust, R: Wait>(
         &self,
         rt: &R,
         export: &Export<B, D, H, T>,
         slot: usize,
-        pass: SessionPass<B>,
+        passes: WorkerPasses<B>,
     ) -> bool {
         self.registry.retire(rt, slot);
+        let WorkerPasses { first, others } = passes;
+        let mut others = others;
+        if let Some(pass) = first {
+            self.join(rt, export, pass);
+        }
+        while let Some(pass) = others.pop() {
+            self.join(rt, export, pass);
+        }
+        *self.unretired.lock(rt) == 0
+    }
+
+    // A pass joins the last one.
+    fn join<D: Disk, H: ReadUnlocked, T: Trust, R: Wait>(
+        &self,
+        rt: &R,
+        export: &Export<B, D, H, T>,
+        pass: SessionPass<B>,
+    ) {
         let left = pass.leave(rt, export);
         self.last.lock(rt).join(export, left);
         let mut unretired = self.unretired.lock(rt);
         *unretired = unretired.saturating_sub(1);
-        *unretired == 0
     }
 
     /// The figures of an export, which the last pass learns from.
@@ -146,7 +193,7 @@ impl<'a, B: ServerName> WorkerPool<'a, B> {
         self,
         export: &Export<B, D, H, T>,
     ) -> (LastPass<B>, bool)
-        ensures served { ∥ AreServed B.offer B.geometry result.0.roster.calls ∥₁ }
+        ensures served { ∥ AreServed B.offer B.geometry B.several result.0.roster.calls ∥₁ }
         ensures all { IsTrue result.1 → HasAll result.0.roster }
     {
         let mut last = self.last.into_inner();
@@ -162,12 +209,15 @@ impl<'a, B: ServerName> WorkerPool<'a, B> {
     }
 }
 
-// What a session notes while it lasts: what was asked for, whether what is written are replies, and the buffer of its last short READ.
+// What a session notes while it lasts: what was asked for, whether what is written are replies, the buffer of its last short READ, how
+// many of its requests wait while it goes on, and how many READs had found blocks missing.
 #[derive(Drop)]
 struct SessionNotes {
     traffic: Cell<Traffic>,
     is_replying: Cell<bool>,
     buffer: Cell<Option<Vec<u8>>>,
+    waiting_count: AtomicU32,
+    misses: Cell<u64>,
 }
 
 /// What a thread of a server does.
@@ -224,16 +274,17 @@ pub(crate) struct Server<'a, B: ServerName, D: Disk, H: ReadUnlocked, T: Trust, 
     pub name: OfferedName<'a>,
     pub watch: G,
     pub ghost offers: { offered export.now.geometry name.bytes.now (flush_waits export.now.mode) ≡ B.offer },
+    pub ghost several: { nat_lt 1 options.in_flight ≡ B.several },
 }
 
 impl<
     'a,
-    B: ServerName,
-    D: Disk,
-    H: ReadUnlocked,
-    T: Trust,
-    R: Wait + Clock,
-    G: SyncPoints + Watch + Copy,
+    B: ServerName + Send + Sync,
+    D: Disk + Send,
+    H: ReadUnlocked + Send + Sync,
+    T: Trust + Send + Sync,
+    R: Threads + Wait + Clock + Sync,
+    G: SyncPoints + Watch + Copy + Send + Sync,
 > Server<'a, B, D, H, T, R, G> {
     /// Does a task to its end.
     pub(crate) fn run(&self, task: Task) {
@@ -274,6 +325,9 @@ impl<
 
     // Brings a client to a worker: at once if one is free, and else as the options say.
     fn bring(&self, client: Client) {
+        if let Some(limit) = self.options.limits.keepalive() {
+            client.drop_if_silent(limit);
+        }
         let registry = self.pool.registry;
         if let Err(client) = registry.offer(self.rt, client) {
             let ServeOptions {
@@ -291,7 +345,8 @@ impl<
     // Serves one client after another in a slot of the registry, until that is closed or no session may begin any more. A session
     // that ends by a refusal counts, and is no end.
     fn work(&self) {
-        let Some((slot, mut pass)) = self.pool.take_pass(self.rt) else {
+        let count = self.options.in_flight;
+        let Some((slot, mut passes)) = self.pool.take_passes(self.rt, self.export, count) else {
             return;
         };
         let registry = self.pool.registry;
@@ -300,22 +355,22 @@ impl<
                 break;
             }
             if let Some(session) = registry.next_session(self.rt, self.pool.alloc, slot) {
-                self.receive(&mut pass, &session);
+                self.receive(&mut passes, &session);
                 registry.leave(self.rt, slot);
             }
         }
-        self.retire(slot, pass);
+        self.retire(slot, passes);
     }
 
-    /// Takes a pass back. After the last one nobody asks for figures any more.
-    pub(crate) fn retire(&self, slot: usize, pass: SessionPass<B>) {
-        if self.pool.retire(self.rt, self.export, slot, pass) {
+    /// Takes passes back. After the last ones nobody asks for figures any more.
+    pub(crate) fn retire(&self, slot: usize, passes: WorkerPasses<B>) {
+        if self.pool.retire(self.rt, self.export, slot, passes) {
             self.watch.end_answers();
         }
     }
 
     // Serves a client, and stores what is pending before the client is let go.
-    fn receive(&self, pass: &mut SessionPass<B>, session: &Session) {
+    fn receive(&self, passes: &mut WorkerPasses<B>, session: &Session) {
         self.watch.note(Event::Came {
             client: session.number,
             from: &session.client,
@@ -328,10 +383,14 @@ impl<
             }),
             is_replying: Cell::new(false),
             buffer: Cell::new(None),
+            waiting_count: AtomicU32::new(0),
+            misses: Cell::new(0),
         };
-        let end = self.serve_client(pass, session, &told);
+        let end = self.serve_client(passes, session, &told);
         let mut points = self.watch;
-        pass.flush(self.rt, self.export, &mut points);
+        if let Some(pass) = &mut passes.first {
+            pass.flush(self.rt, self.export, &mut points);
+        }
         self.watch.note(Event::Left {
             client: session.number,
             end,
@@ -342,7 +401,7 @@ impl<
     // Serves a client from the first byte to the last.
     fn serve_client(
         &self,
-        pass: &mut SessionPass<B>,
+        passes: &mut WorkerPasses<B>,
         session: &Session,
         told: &SessionNotes,
     ) -> Result<(), End> {
@@ -364,6 +423,7 @@ impl<
             has_agreed: &session.has_agreed,
             name: self.name,
             buffer: &told.buffer,
+            misses: &told.misses,
         };
         let mut output = WatchedOutput {
             inner: Output::new(self.pool.alloc, client),
@@ -373,7 +433,67 @@ impl<
         let mut input = Input {
             client,
             registry: self.pool.registry,
+            waiting_count: &told.waiting_count,
+            is_replying: &told.is_replying,
+            heard: Vec::new(self.pool.alloc),
         };
-        pass.serve(self.pool.alloc, &mut input, &mut output, &handler)
+        let end = if self.options.in_flight > 1 {
+            self.serve_in_flight(passes, &mut input, &mut output, &handler, told)
+        } else {
+            match &mut passes.first {
+                Some(pass) => pass.serve(self.pool.alloc, &mut input, &mut output, &handler),
+                None => Err(End::NoMemory),
+            }
+        };
+        if !told.is_replying.get() {
+            if let Some(name) = last_name(&input.heard) {
+                self.watch.note(Event::Unagreed {
+                    client: session.number,
+                    name,
+                });
+            }
+        }
+        end
+    }
+
+    // Serves a client that may have several requests in progress. A second thread finishes those that wait. Without memory for that they
+    // are finished here, one after another.
+    fn serve_in_flight<'b>(
+        &self,
+        passes: &mut WorkerPasses<B>,
+        input: &mut Input<'b>,
+        output: &mut WatchedOutput<'_, Output<'_>, G>,
+        handler: &RequestHandler<'b, B, D, H, T, R, G>,
+        told: &'b SessionNotes,
+    ) -> Result<(), End>
+        requires { 1 < self.now.options.in_flight }
+    {
+        let alloc = self.pool.alloc;
+        let transmission = Transmission::after_handshake(alloc, input, output, handler)?;
+        let others = mem::replace(&mut passes.others, Vec::new(alloc));
+        let first = mem::replace(&mut passes.first, None);
+        let shared = match InFlight::new(alloc, handler, others, &told.waiting_count) {
+            Ok(shared) => shared,
+            Err(others) => {
+                passes.others = others;
+                passes.first = first;
+                return Err(End::NoMemory);
+            }
+        };
+        let reader = Reader::new(handler, &shared, first);
+        let reading = Reading {
+            transmission,
+            input: input.for_requests(alloc),
+            shared: &shared,
+            reader,
+        };
+        let (ended, first) = read_all(self.rt, reading);
+        let mut idle = shared.into_passes();
+        passes.first = match first {
+            Some(pass) => Some(pass),
+            None => idle.pop(),
+        };
+        passes.others = idle;
+        ended
     }
 }

@@ -1,6 +1,6 @@
 use Rattle.std.specs.Prelude.{OnOk}
 use Rattle.std.proofs.lemmas.Grind.{merely}
-use Rattle.std.proofs.Common.{ℕ, List, [], ◌+◌, ◌∙◌, length, subst, sym}
+use Rattle.std.proofs.Common.{ℕ, List, [], ◌+◌, ◌∙◌, length, subst, sym, nat_lt}
 use Rattle.std.proofs.Props.{props}
 use Rattle.std.proofs.Math.Logic.{∥∥₁_elim}
 use Rattle.device_image.specs.Stands.{StandsFor}
@@ -65,7 +65,7 @@ pub returns-in-Ok-clause-log : goal.returns-in-Ok-clause-log
 returns-in-Ok-clause-log g c = λ logs.
     let keeper = c.args.device.keeper in let image = image_found g.D.Disk.state keeper in let start = g.D.Disk.state keeper.disk in let now = g.D.Disk.state c.serve_over.result.1 in
     subst (λ (n : ℕ). (history : List Change) × (roster : RosterState) × KeepsLog g.T.Trust.trusted g.T.Trust.mode (IsTrusted g.D.Disk.state g.D.Disk.honest keeper image) start now n image history roster
-    × ∥ AreServed (offered keeper.geometry c.args.name.bytes.now (flush_waits c.args.options.mode)) keeper.geometry roster.calls ∥₁
+    × ∥ AreServed (offered keeper.geometry c.args.name.bytes.now (flush_waits c.args.options.mode)) keeper.geometry (nat_lt 1 c.args.options.in_flight) roster.calls ∥₁
     × OnOk c.serve_over.result.0 (HasAll roster × (IsTrusted g.D.Disk.state g.D.Disk.honest keeper image → LeavesHistory start now n image history (n + length history)))) (c.in-Ok.ensures ∙ c.count.ensures) (c.serve_over.ensures.log logs)
 
 pub returns-in-Ok-clause-honest : goal.returns-in-Ok-clause-honest

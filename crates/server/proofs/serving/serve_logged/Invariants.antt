@@ -1,4 +1,4 @@
-use Rattle.std.specs.Prelude.{◌≡◌, Some}
+use Rattle.std.specs.Prelude.{◌≡◌, Some, nat_lt}
 use Rattle.export_model.specs.Log.{flush_waits}
 use Rattle.negotiation.specs.Answered.{offered}
 use Rattle.export.specs.Trusted.{IsTrusted, image_found}
@@ -8,9 +8,9 @@ use Rattle.server.proofs.serving.serve_logged.Given as goal
 abbrev pub ghosts-serve_over-B-BoardName : goal.ghosts-serve_over-B-BoardName
 ghosts-serve_over-B-BoardName g a = record { board = a.device.blank.board; opening = a.device.blank.opening }
 
--- what clients are offered
+-- what clients are offered, and whether they may have several requests in progress
 abbrev pub ghosts-serve_over-B-ServerName : goal.ghosts-serve_over-B-ServerName
-ghosts-serve_over-B-ServerName g a = record { offer = offered a.device.keeper.geometry a.name.bytes.now (flush_waits a.options.mode) }
+ghosts-serve_over-B-ServerName g a = record { offer = offered a.device.keeper.geometry a.name.bytes.now (flush_waits a.options.mode); several = nat_lt 1 a.options.in_flight }
 
 -- the sizes of the device
 abbrev pub ghosts-serve_over-B-ExportName : goal.ghosts-serve_over-B-ExportName

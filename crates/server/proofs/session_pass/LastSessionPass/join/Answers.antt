@@ -13,6 +13,6 @@ invariant_of-self g c =
       made_few = old.made_few;
       roster = ap (λ (r : RosterState). r.made) roster ∙ old.roster;
       has = λ by marked. subst (λ (r : RosterState). ∥ HasCall by r.calls ∥₁) (sym roster) (joined_more old.joined old.last.roster.calls call other.client_number other.by old.has by marked);
-      served = subst (λ (r : RosterState). ∥ AreServed g.B.ServerName.offer g.B.ExportName.geometry r.calls ∥₁) (sym roster)
-          (∥∥₁_map old.served (λ served. served_more g.B.ServerName.offer g.B.ExportName.geometry old.last.roster.calls call served other.served));
+      served = subst (λ (r : RosterState). ∥ AreServed g.B.ServerName.offer g.B.ExportName.geometry g.B.ServerName.several r.calls ∥₁) (sym roster)
+          (∥∥₁_map old.served (λ served. served_more g.B.ServerName.offer g.B.ExportName.geometry g.B.ServerName.several old.last.roster.calls call served other.served));
     }

@@ -16,5 +16,5 @@ invariant_of-result g c =
     let by : pass.client.by ≡ c.len.result = ap (λ (p : PassState). p.client.by) is.1 ∙ counted in record {
       in_range = omega (arith, old.few, size, counted, old.passes.ok.0);
       by = by;
-      served = subst (λ (p : PassState). HasSessions g.B.ServerName.offer g.B.ExportName.geometry p.client.by p.client.mine) (sym is.1) (none_yet g.B.ServerName.offer g.B.ExportName.geometry _);
+      served = subst (λ (p : PassState). HasSessions g.B.ServerName.offer g.B.ExportName.geometry g.B.ServerName.several p.client.by p.client.mine) (sym is.1) (none_yet g.B.ServerName.offer g.B.ExportName.geometry g.B.ServerName.several _);
     }

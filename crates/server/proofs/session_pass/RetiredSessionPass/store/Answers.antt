@@ -8,5 +8,5 @@ pub invariant_of-self : goal.invariant_of-self
 invariant_of-self g c = let old = c.args.self.now in record {
   in_range = old.in_range;
   by = ap (λ (k : Client). k.by) c.store_accepted.ensures.client ∙ old.by;
-  served = subst (λ (k : Client). HasSessions g.B.ServerName.offer g.B.ExportName.geometry k.by k.mine) (sym c.store_accepted.ensures.client) old.served;
+  served = subst (λ (k : Client). HasSessions g.B.ServerName.offer g.B.ExportName.geometry g.B.ServerName.several k.by k.mine) (sym c.store_accepted.ensures.client) old.served;
 }

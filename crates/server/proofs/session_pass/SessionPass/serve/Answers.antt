@@ -12,7 +12,7 @@ use Rattle.server.proofs.session_pass.SessionPass.serve.Goals as goal
 pub invariant_of-self : goal.invariant_of-self
 invariant_of-self g c =
     let old = c.args.self.now in let new = c.serve_session.new.pass in
-    let offer = g.B.ServerName.offer in let geometry = g.B.ExportName.geometry in
+    let offer = g.B.ServerName.offer in let geometry = g.B.ExportName.geometry in let several = g.B.ServerName.several in
     let session = session_logged _ geometry old.client_number (λ before after request flags reply allowed is. (
       allowed.3 ∙ is,
       (
@@ -22,8 +22,8 @@ invariant_of-self g c =
     )) _ old.pass new _ _ _ _ _ old.by c.serve_session.ensures in record {
       in_range = old.in_range;
       by = session.0;
-      served = session_more offer geometry old.client_number new.client.by old.pass.client.mine new.client.mine session.0
-          (subst (λ (n : ℕ). HasSessions offer geometry n old.pass.client.mine) old.by old.served)
+      served = session_more offer geometry several old.client_number new.client.by old.pass.client.mine new.client.mine session.0
+          (subst (λ (n : ℕ). HasSessions offer geometry several n old.pass.client.mine) old.by old.served)
           (subst (λ (o : Offer). IsSession o geometry old.client_number old.pass.client.mine new.client.mine) c.requires session.1);
     }
 
