@@ -5,4 +5,5 @@ pub mod Noted
 pub mod Opened
 pub mod Submits
 pub mod Trusted
+pub mod Unlocked
 pub mod inner

@@ -48,6 +48,15 @@ pub struct NotedBase {
     number: u64,
 }
 
+impl NotedBase {
+    /// The number of the last command in it.
+    pub fn number(&self) -> u64
+        ensures { result ≡ base_of self.now }
+    {
+        self.number
+    }
+}
+
 /// What of the device is read without a lock.
 #[derive(Clone, Copy)]
 pub(crate) struct Planned {

@@ -112,6 +112,11 @@ pub fn wait_for_turn<R: Clock>(rt: &R, number: &AtomicU64, turn: u64) -> bool {
     false
 }
 
+// The proofs alone use its value, by which they tell what a handle gave.
+enum Seal {
+    Whole,
+}
+
 /// A handle of a file in memory whose reads are held, with the bytes that they have got.
 #[derive(Drop)]
 pub struct HeldHandle<'a, R: Wait + Clock> {
@@ -120,10 +125,14 @@ pub struct HeldHandle<'a, R: Wait + Clock> {
 }
 
 impl<'a, R: Wait + Clock> ReadUnlocked for HeldHandle<'a, R> {
-    ghost gives = { λ handle asked offset bytes. Unit {0} };
+    ghost use Rattle.export.specs.Unlocked.{Gave, Vouched};
+    ghost use Rattle.export_tests.specs.declared.memory_file.Seal.{Seal};
 
-    ghost vouches = { λ handle read. Unit {0} };
+    ghost gives = { λ handle asked offset bytes. Gave Seal handle asked offset bytes };
 
+    ghost vouches = { λ handle read. Vouched Seal handle read };
+
+    #[tactic(auto, using(crate::proofs::HandleVouches::gave))]
     fn read_unlocked(
         &self,
         _asked: NotedBase,
