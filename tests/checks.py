@@ -277,9 +277,11 @@ class Server:
         offset, data = self.writes % BLOCKS * BLOCK, block_of(self.writes)
         try:
             with self.new_client(seconds) as client:
-                client.sendall(request(WRITE, 1, offset, BLOCK) + data + request(FLUSH, 2) + request(READ, 3, offset, BLOCK))
-                wanted = reply(1) + reply(2) + reply(3) + data
-                found = take(client, len(wanted))
+                # (one after another: replies to requests that are in progress together may come in any order)
+                wanted, found = reply(1) + reply(2) + reply(3) + data, b""
+                for text, size in ((request(WRITE, 1, offset, BLOCK) + data, 16), (request(FLUSH, 2), 16), (request(READ, 3, offset, BLOCK), 16 + BLOCK)):
+                    client.sendall(text)
+                    found += take(client, size)
                 client.sendall(request(DISC, 4))
                 end = take(client, 1)
             check(f"{name}: a good client", (True, b""), (found == wanted or found[:48].hex(), end))

@@ -67,7 +67,7 @@ serves() {
     tcp) where="127.0.0.1 $at" ;;
     unix) where="-unix $at" ;;
     esac
-    is "$transport: the server listens" "listening" "$(cut -d ' ' -f 1 heard; grep -v '^nbdj: d.img: recovered ' serve_errors)"
+    is "$transport: the server listens" "listening" "$(cut -d ' ' -f 1 heard; grep -v -e '^nbdj: d.img: recovered ' -e '^nbdj: d.img: nbdj .* serves ' serve_errors)"
 }
 
 # killed NAME: kills the server, which has to be alive, and recovers the image
@@ -423,7 +423,7 @@ if has nbdcopy; then
     done
 fi
 
-# A full disk: the server says why, and ends; with space it starts again.
+# A full disk: with --on-full stop the server says why, and ends; with space it starts again. Otherwise the copy waits until there is space.
 full_disk() {
     small=$folder/small
     mkdir "$small"
@@ -434,7 +434,7 @@ full_disk() {
     "$NBDJ" format "$small/d.img" --size 64M --area 2M >/dev/null
     rm -f d.img
     ln -s "$small/d.img" d.img
-    serves tcp
+    serves tcp --on-full stop
     head -c 1048576 bytes_b >one
     is 'a full disk: a copy that has room' 0 "$(quiet nbdcopy --flush one "$uri")"
     is 'a full disk: a copy that has none' 1 "$(quiet nbdcopy --flush half_a "$uri" | head -n 1)"
@@ -452,6 +452,21 @@ full_disk() {
     head -c "$HALF" found >found_half
     same 'a full disk with room: what was copied' half_a found_half
     killed 'a full disk with room'
+    rm "$small/d.img"
+    mount -o remount,size=12m tmpfs "$small"
+    "$NBDJ" format "$small/d.img" --size 64M --area 2M >/dev/null
+    serves tcp
+    timeout 120 nbdcopy --flush half_a "$uri" 2>/dev/null &
+    copy=$!
+    wait_for 60 grep -q 'what is copied waits' serve_errors
+    is 'a full disk that gets room: it waits' 1 "$(grep -c 'what is copied waits' serve_errors)"
+    mount -o remount,size=96m tmpfs "$small"
+    wait $copy 2>wait
+    is 'a full disk that gets room: the copy' 0 $?
+    is 'a full disk that gets room: the copy back' 0 "$(quiet nbdcopy "$uri" found)"
+    head -c "$HALF" found >found_half
+    same 'a full disk that gets room: what was copied' half_a found_half
+    killed 'a full disk that gets room'
     umount "$small"
     rm -f d.img
 }
@@ -519,7 +534,9 @@ refused() {
 serves tcp
 port=${uri##*:}
 refused 'a port in use' 1 "nbdj: 127.0.0.1:$port: Address already in use (os error 98)|nbdj: stream fault (21)" other.img --listen "127.0.0.1:$port"
-refused 'no port' 1 'nbdj: 127.0.0.1:: invalid port value|nbdj: stream fault (21)' other.img --listen 127.0.0.1:
+timeout 20 "$NBDJ" serve other.img --listen 127.0.0.1: >output 2>errors
+is 'no port' "2||error: invalid value '127.0.0.1:' for '--listen <ADDR>': it is a host or an IP address, and maybe a port from 0 to 65535 after a colon" \
+    "$?|$(cat output)|$(head -n 1 errors)"
 refused 'an image in use' 4 'nbdj: d.img: another process has locked it|nbdj: d.img is in use' d.img --listen 127.0.0.1:0
 killed 'after a port in use'
 serves unix

@@ -244,7 +244,7 @@ def installed(machines):
     check("both are enabled", "enabled\nenabled", guest.asked("both", "systemctl is-enabled nbdj@data.service nbdj@data.socket"))
     check("the socket", "srw-rw---- nbdj nbdj", guest.asked("the socket", f"stat -c '%A %U %G' {SOCKET}"))
     # (the unit is active before the program is)
-    guest.asked("its log", "for n in $(seq 60); do journalctl -u nbdj@data -o cat | grep -q ^listening && break; sleep 1; done; journalctl -u nbdj@data -o cat | grep ^listening")
+    guest.asked("its log", "for n in $(seq 60); do journalctl -u nbdj@data -o cat | grep -q ' serves ' && break; sleep 1; done; journalctl -u nbdj@data -o cat | grep ' serves '")
     check("its user", "nbdj nbdj", guest.asked("its user", "stat -c '%U %G' /proc/$(pidof nbdj || echo none)"))
     rated = guest.asked("its rating", "systemd-analyze security --no-pager nbdj@data.service | tail -n 1")
     told.append(re.search(r"exposure level.*?: (\S+ \S+)", rated)[1])

@@ -781,11 +781,13 @@ def told(folder):
             client.shutdown(socket.SHUT_WR)
             while client.recv(MIB):
                 pass
-        lines = server.read_log(7)
+        lines = server.read_log(8)
         server.kill()
         lines = "".join([*lines, server.process.stderr.read()]).splitlines()
         lines = [re.sub(r"\d+\.\d+ s$", "T s", re.sub(r"127\.0\.0\.1:\d+", "A", line)) for line in lines]
+        lines = [re.sub(r"nbdj [0-9.]+ serves", "nbdj V serves", line) for line in lines]
         check("what is told", [f"nbdj: {server.image}: {line}" for line in (
+            f"nbdj V serves {server.image} as '': {BLOCKS * BLOCK} bytes in layout 1, writeback, 1 workers, 1 in flight, at most 67108864 bytes pending",
             "recovered 0 commands in T s",
             "client 1 came from A",
             "client 1 agreed on simple replies",
@@ -905,12 +907,16 @@ def activated(folder):
         for turn in range(2):
             early = [socket.create_connection(("127.0.0.1", port)), connect(path)]
             with start_with([tcp, unix], image, "--until-eof") as server:
-                check(f"activated {turn}: the lines", [f"listening {port}\n", f"listening {path}\n"], [server.stdout.readline() for _ in range(2)])
                 check(f"activated {turn}: early clients", [True, True], [is_served(client) for client in early])
                 check(f"activated {turn}: later clients", [True, True], [is_served(socket.create_connection(("127.0.0.1", port))), is_served(connect(path))])
                 server.stdin.close()
-                check(f"activated {turn}: the end", (0, ""), (server.wait(timeout=20), server.stderr.read()))
+                check(f"activated {turn}: the end", (0, "", ""), (server.wait(timeout=20), server.stdout.read(), server.stderr.read()))
             check(f"activated {turn}: the socket's file stays", True, os.path.exists(path))
+        with start_with([tcp], image, "--until-eof", "--export-name", "disk", "--fresh-name") as server:
+            told = server.stderr.readline()
+            check("activated: a fresh name is told on standard error", f"nbdj: {image}: export disk-", re.sub(r"\d+\n$", "", told))
+            server.stdin.close()
+            check("activated: its end", (0, ""), (server.wait(timeout=20), server.stdout.read()))
         script, environment = os.path.join(TOP, "packaging", "nbdj-server"), {**os.environ, "NBDJ": NBDJ}
         with start_with([tcp], image, program=(script,), environment=environment) as server:
             check("activated, by nbdj-server: a client", True, is_served(socket.create_connection(("127.0.0.1", port))))
@@ -934,10 +940,11 @@ def crowded(folder):
     few = {"preexec_fn": lambda: resource.setrlimit(resource.RLIMIT_NOFILE, (9, 9)), "restore_signals": False}
     with Server(folder, "crowded", 8, **few) as server:
         clients = [server.connect() for _ in range(8)]
-        lines = server.read_log(1)
+        warning, line = server.read_log(2)
         for client in clients:
             client.close()
-        check("crowded: the log", [f"nbdj: {server.image}: a client can't be accepted: Too many open files (os error 24)\n"], lines)
+        check("crowded: the log warns of it", True, "file descriptors are free" in warning)
+        check("crowded: the log", f"nbdj: {server.image}: a client can't be accepted: Too many open files (os error 24)\n", line)
         server.goes_on("after a crowd")
 
 

@@ -106,7 +106,6 @@ refused 'layout 0' format new.img --size 64K --layout 0
 refused 'layout 3' format new.img --size 64K --layout 3
 refused 'a layout of letters' format new.img --size 64K --layout two
 refused 'a layout without a value' format new.img --size 64K --layout
-refused 'a layout given twice' format new.img --size 64K --layout 1 --layout 2
 refused 'a layout before its command' --layout 1 format new.img --size 64K
 refused 'a layout after the words' format new.img --size 64K -- --layout 1
 refused 'a part of an option' format new.img --size 64K --lay 1
@@ -185,8 +184,12 @@ serves 'a Unix socket that nobody listens on' 143 'listening d.sock' '' d.img --
 serves 'a file in the place of a socket' 1 '' 'nbdj: stream fault (21)' d.img --unix d.file
 is 'the file in the place of a socket' yes "$([ -f d.file ] && echo yes)"
 serves 'a socket in a folder that is missing' 1 '' 'nbdj: stream fault (21)' d.img --unix none/d.sock
-for address in 127.0.0.1:65536 192.0.2.1:0 192.0.2.1 : '' '[::1' ::1:0; do
+for address in 192.0.2.1:0 192.0.2.1 ::1:0; do
     serves "the address '$address'" 1 '' 'nbdj: stream fault (21)' d.img --listen "$address"
+done
+for address in 127.0.0.1:65536 : '' '[::1' 0 10809; do
+    is "the address '$address'" "2|error: invalid value '$address' for '--listen <ADDR>'" \
+        "$("$NBDJ" serve d.img --listen "$address" 2>errors; echo "$?|$(head -n 1 errors | sed 's/: it is .*//')")"
 done
 serves 'a missing image' 1 '' 'nbdj: cannot open none.img' none.img --listen 127.0.0.1
 is 'a server that was killed at once' 'commands 0' "$("$NBDJ" recover d.img)"
@@ -222,13 +225,18 @@ reason 'a folder' 1 'nbdj: .: neither a file nor a block device' 'nbdj: cannot o
 : >d.img
 reason 'an empty file' 3 'nbdj: d.img: not an image of nbdj; see nbdj format' 'nbdj: no header (7)' check d.img -v
 filled 8192 '\001' >d.img
-reason 'a file of ones' 1 "nbdj: d.img: its header isn't one that nbdj has written" 'nbdj: bad header (8)' recover d.img -v
+reason 'a file of ones' 1 "nbdj: d.img: its header isn't one that nbdj has written
+nbdj: d.img: both header slots, at offsets 0 and 4096, have generation 72340172838076673" 'nbdj: bad header (8)' recover d.img -v
+bad_slot="nbdj: d.img: header slot 0 at offset 0, or the file's length, breaks a rule"
 fresh 16 2097152
 truncate -s -4096 d.img
-reason 'a file that was cut' 3 'nbdj: d.img: 4,096 bytes shorter than its header says' 'nbdj: bad header (8)' check d.img -v
-reason 'a served file that was cut' 1 'nbdj: d.img: 4,096 bytes shorter than its header says' 'nbdj: bad header (8)' serve d.img --unix d.sock
+reason 'a file that was cut' 3 "nbdj: d.img: 4,096 bytes shorter than its header says
+$bad_slot" 'nbdj: bad header (8)' check d.img -v
+reason 'a served file that was cut' 1 "nbdj: d.img: 4,096 bytes shorter than its header says
+$bad_slot" 'nbdj: bad header (8)' serve d.img --unix d.sock
 truncate -s +1238663 d.img
-reason 'a file that has grown' 1 'nbdj: d.img: 1,234,567 bytes longer than its header says' 'nbdj: bad header (8)' recover d.img -v
+reason 'a file that has grown' 1 "nbdj: d.img: 1,234,567 bytes longer than its header says
+$bad_slot" 'nbdj: bad header (8)' recover d.img -v
 fresh 16 2097152
 reason 'an address of another machine' 1 'nbdj: 192.0.2.1:0: Cannot assign requested address (os error 99)' 'nbdj: stream fault (21)' serve d.img --listen 192.0.2.1:0
 reason 'a socket in a folder that is missing' 1 'nbdj: none/d.sock: No such file or directory (os error 2)' 'nbdj: stream fault (21)' serve d.img --unix none/d.sock
@@ -1111,7 +1119,7 @@ for _ in range(200):
     except OSError:
         time.sleep(0.05)
 print(client.recv(8).decode())' "$folder/run/socket")"
-    is 'the unit: it listens' "listening $folder/run/socket" "$(cat printed)"
+    is 'the unit: nothing is printed' '' "$(cat printed)"
     kill "$serving"
     wait "$serving"
     is 'the unit: the end' "0|nbdj: $folder/d.img: recovered 0 commands|yes" "$?|$(sed -n 's/ in [0-9].*//; /: recovered /p' errors)|$([ -e run/socket ] && echo yes || echo no)"
@@ -1129,11 +1137,36 @@ fi
 is 'what is left of what was installed' '' "$(find 'in stalled' -type f)"
 is 'the help of tools/install' '0|usage: ' "$("$here/tools/install" --help >printed; echo "$?|$(head -c 7 printed)")"
 is 'a prefix of other characters' 2 "$("$here/tools/install" --prefix 'a|b' 2>errors; echo $?)"
+# completed FUNCTION WORD..: what bash offers for the last word
+ln -s "$NBDJ" nbdj
+completed() {
+    bash -c '. "$1"; function=$2; shift 2; COMP_WORDS=("$@"); COMP_CWORD=$(($# - 1)); "$function"; echo "${COMPREPLY[*]}"' \
+        bash "$here/packaging/nbdj.bash" "$@"
+}
+is 'what is completed: no option of another command' '' "$(completed _nbdj "$folder/nbdj" status --status)"
+is 'what is completed: an option' '--store' "$(completed _nbdj "$folder/nbdj" status --sto)"
+is 'what is completed: of nbdj-server' '--on-fault --on-full' "$(completed _nbdj_server "$folder/nbdj-server" d.img --on-f)"
+is 'what is completed: a value' 'wait' "$(completed _nbdj_server "$folder/nbdj-server" d.img --on-full w)"
+is 'what is completed: nothing that is refused' '' "$(completed _nbdj_server "$folder/nbdj-server" d.img --until)"
 if command -v dpkg-deb >/dev/null; then
     package=$("$here/tools/package-deb" "$folder/package" 2>errors)
     dpkg-deb -x "$package" unpacked
     is 'the program of the package' "nbdj $version" "$(unpacked/usr/bin/nbdj --version)"
     is 'what the package needs' 'libc6 (>= 2.34)' "$(dpkg-deb -f "$package" Depends)"
+    is 'the pages of the package' 'CHANGELOG.md.gz FAILOVER.md FORMATS.md GUIDE.md changelog.gz copyright' \
+        "$(LC_ALL=C ls unpacked/usr/share/doc/nbdj | grep -v ORDERED | paste -s -d ' ')"
+    mkdir fakes
+    printf '#!/bin/sh\nexit 2\n' >fakes/getent
+    printf '#!/bin/sh\necho "$@" >%s/made\n' "$folder" >fakes/useradd
+    printf '#!/bin/sh\n' >fakes/systemctl
+    chmod +x fakes/*
+    dpkg-deb -e "$package" control
+    is 'the user without systemd' '0|nbdj' "$(PATH=$folder/fakes /bin/sh control/postinst configure; echo "$?|$(sed 's/.* //' made)")"
+    if command -v lintian >/dev/null; then
+        is 'lintian finds no error in the package' '' "$(lintian "$package" 2>errors | grep '^E:')"
+    else
+        skipped 'lintian over the package' 'lintian is not installed'
+    fi
     is 'the package tells systemd of its unit' yes "$(dpkg-deb -I "$package" postinst | grep -q 'systemctl daemon-reload' && echo yes)"
     if command -v man >/dev/null; then
         for page in man1/nbdj.1 man1/nbdj-server.1 man8/nbdj-standby.8; do

@@ -241,8 +241,9 @@ def check_printed(path):
     found["uptime_microseconds"] = wanted["uptime_microseconds"] = 0
     check("printed: as JSON", (0, wanted, 1), (status, found, output.count("\n")))
     nowhere = path + ".none"
-    check("printed: no server there", (1, "", f"nbdj: no figures from {nowhere}\n"), run(nowhere))
-    check("printed: no server there, with -v", (1, "", f"nbdj: {nowhere}: No such file or directory (os error 2)\nnbdj: no figures from {nowhere}\n"), run(nowhere, "-v"))
+    for words in ((), ("-v",)):
+        wanted = (1, "", f"nbdj: {nowhere}: there is no such socket\nnbdj: no figures from {nowhere}\n")
+        check(f"printed: no server there {' '.join(words)}", wanted, run(nowhere, *words))
     check("printed: both forms", 2, run(path, "--json", "--watch")[0])
     check_watched(path)
 
@@ -376,7 +377,8 @@ def stored(folder):
             write(client, 9, 3 * BLOCK, bytes([4]) * BLOCK)
             server.kill()
         check("stored: after a kill", "commands 3\n", checks.run("recover", server.image)[1])
-    check("stored: no server", (1, "", f"nbdj: not stored by {path}\n"), run(path, "--store"))
+    wanted = (1, "", f"nbdj: {path}: no server listens there any more\nnbdj: not stored by {path}\n")
+    check("stored: no server", wanted, run(path, "--store"))
 
 
 def stored_slowly(folder):
@@ -401,7 +403,8 @@ def stored_by_a_device_that_fails(folder):
     with serve_with_status(folder, "unstored", "--on-fault", "stay", "--flush-interval", "0", **limit_file_size()) as (server, path):
         with server.new_client() as client:
             write(client, 1, 0, bytes(BLOCK))
-            check("unstored: it says so", (1, "", f"nbdj: not stored by {path}\n"), run(path, "--store"))
+            wanted = (1, "", f"nbdj: {path}: the server answers that it can't\nnbdj: not stored by {path}\n")
+            check("unstored: it says so", wanted, run(path, "--store"))
             check("unstored: nothing is durable", 0, figures(path)["durable_number"])
 
 

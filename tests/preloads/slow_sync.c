@@ -1,5 +1,5 @@
 /* A preload that makes syncs as slow as those of a disk: `fdatasync` and `fsync` sleep for SLOW_SYNC_US microseconds (by default 0) before they
- * do their work, and `pwrite` for SLOW_WRITE_US. Calls of several threads sleep at the same time.
+ * do their work, `pwrite` for SLOW_WRITE_US and `pread` for SLOW_READ_US. Calls of several threads sleep at the same time.
  *
  * cc -shared -fPIC -O2 -o slow_sync.so slow_sync.c
  * SLOW_SYNC_US=5000 LD_PRELOAD=$PWD/slow_sync.so nbdj serve ...
@@ -19,7 +19,10 @@ static void wait_for_the_drive(const char *variable)
             ;
 }
 
-static void before_read(void) {}
+static void before_read(void)
+{
+    wait_for_the_drive("SLOW_READ_US");
+}
 
 static void before_write(void)
 {

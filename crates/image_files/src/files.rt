@@ -10,7 +10,7 @@ use header_slots::{Header, SLOT_BYTES, read_current};
 use std::alloc::AllocError;
 use std::fs::{self, File, Metadata, OpenFile, OpenOptions, TryLockError};
 use std::io::{self, ErrorKind, Seek, SeekFrom};
-use std::os::unix::fs::{FileExt, FileTypeExt};
+use std::os::unix::fs::{FileExt, FileTypeExt, OpenOptionsExt};
 use std::path::Path;
 
 /// Why a device's file isn't there to work on.
@@ -237,6 +237,9 @@ pub struct Wanted {
     pub replaces: bool,
 }
 
+// A new file can be read and written by its owner alone: an image is a whole disk.
+const NEW_FILE_MODE: u32 = 0o600;
+
 /// Opens a file, or makes it, that gets this length once it is written, and keeps what it holds until then; or a block device
 /// that has it. Its name is stable where the system lets a folder be synced. A file that was made and isn't wanted is removed.
 pub fn open_fresh(
@@ -256,6 +259,7 @@ pub fn open_fresh(
         .read(true)
         .write(true)
         .create(place == Place::File)
+        .mode(NEW_FILE_MODE)
         .open(rt, path)?;
     match fresh(rt, file, wanted, place) {
         Ok(file) => {

@@ -10,6 +10,7 @@ mod filling;
 mod fresh;
 mod noted;
 mod progress;
+mod reading_ahead;
 mod streams;
 mod told;
 mod writing_out;
@@ -21,5 +22,6 @@ pub use files::{
     try_fresh,
 };
 pub use fresh::FreshFile;
+pub use reading_ahead::begin_reading;
 pub use streams::ClosedStreams;
-pub use told::{FileLines, ToldFile};
+pub use told::{FileLines, ToldFile, is_full};

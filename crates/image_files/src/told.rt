@@ -35,6 +35,8 @@ pub struct ToldFile<'a, F: FileExt + OpenFile + AsRawFd + Drop, L: FileLines + D
     lines: L,
     // Whether a call that fails is still to be told.
     tells: Cell<bool>,
+    // Whether a write that its disk has no space for is tried again, and so isn't told.
+    retries_full: bool,
     // Whether it holds an image, with commands that a FLUSH may have confirmed.
     holds_image: bool,
     // What stands in the header slots of an image; none of any other file.
@@ -70,6 +72,7 @@ impl<'a, F: FileExt + OpenFile + AsRawFd + Drop, L: FileLines + Drop> ToldFile<'
             path,
             lines,
             tells: Cell::new(tells),
+            retries_full: false,
             holds_image,
             slots: Cell::new(slots),
             copying: None,
@@ -83,6 +86,7 @@ impl<'a, F: FileExt + OpenFile + AsRawFd + Drop, L: FileLines + Drop> ToldFile<'
             path,
             lines: _,
             tells,
+            retries_full,
             holds_image,
             slots,
             copying,
@@ -92,9 +96,18 @@ impl<'a, F: FileExt + OpenFile + AsRawFd + Drop, L: FileLines + Drop> ToldFile<'
             path,
             lines,
             tells,
+            retries_full,
             holds_image,
             slots,
             copying,
+        }
+    }
+
+    /// The same file, of which it isn't told that its disk has no space for a write: the caller tries that again.
+    pub fn with_full_retried(self) -> ToldFile<'a, F, L> {
+        ToldFile {
+            retries_full: true,
+            ..self
         }
     }
 
@@ -156,6 +169,14 @@ impl<'a, F: FileExt + OpenFile + AsRawFd + Drop, L: FileLines + Drop> ToldFile<'
     }
 }
 
+/// Whether a write has failed for want of space alone.
+pub fn is_full(error: &io::Error) -> bool {
+    matches!(
+        error.kind(),
+        ErrorKind::StorageFull | ErrorKind::QuotaExceeded
+    )
+}
+
 impl<'a, F: FileExt + OpenFile + AsRawFd + Drop, L: FileLines + Drop> FileExt
     for ToldFile<'a, F, L> {
     fn read_at(&self, buf: &mut [u8], offset: u64) -> io::Result<usize> {
@@ -184,6 +205,7 @@ impl<'a, F: FileExt + OpenFile + AsRawFd + Drop, L: FileLines + Drop> FileExt
                     }
                 }
             }
+            Err(error) if self.retries_full && is_full(error) => {}
             Err(error) => self.tell_of("write", buf.len(), offset, error),
         }
         written

@@ -92,10 +92,67 @@ pub struct NumberFigures {
     pub durable: u64,
 }
 
+/// How often writes waited before they were accepted, and for how long, by what they waited for.
+#[derive(Clone, Copy)]
+pub struct WaitFigures {
+    /// Room in the journal, until an area of it is copied.
+    pub journal: WorkFigures,
+    /// A frame.
+    pub frames: WorkFigures,
+    /// Fewer pending bytes.
+    pub loss_bytes: WorkFigures,
+    /// A command that had been pending for too long.
+    pub loss_seconds: WorkFigures,
+    /// Nothing: they were slowed down.
+    pub throttle: WorkFigures,
+}
+
+/// How a server runs, which doesn't change.
+#[derive(Clone, Copy)]
+pub struct Setup<'a> {
+    pub version: &'a str,
+    /// The path of the image as it was given, and from the root on.
+    pub image: &'a str,
+    pub path: &'a str,
+    /// The name of the export.
+    pub export: &'a str,
+    pub cache: &'a str,
+    /// The bytes of the image.
+    pub size: u64,
+    pub layout: u64,
+    pub workers: u64,
+    /// How many requests of a client may be in progress at a time.
+    pub in_flight: u64,
+    pub loss_bytes: u64,
+}
+
+/// How far the opening of an image is. Of what is left only a bound is known.
+#[derive(Clone, Copy)]
+pub struct OpeningFigures {
+    /// Whether it isn't over: no client is served yet.
+    pub is_opening: bool,
+    /// The bytes of the journal that it has scanned.
+    pub scanned_bytes: u64,
+    /// At most this many are left to scan.
+    pub unscanned_bytes: u64,
+    /// The bytes that it has copied from the journal into the image.
+    pub copied_bytes: u64,
+    /// At most this many are left to copy.
+    pub uncopied_bytes: u64,
+}
+
 /// All figures of a running server.
 #[derive(Clone, Copy)]
 pub struct Figures {
+    /// Whether a call of the device has failed.
+    pub has_failed: bool,
+    /// Whether a write of the device waits because its disk is full.
+    pub waits_for_space: bool,
+    /// Such waits that are over.
+    pub space_waits: WorkFigures,
+    pub waits: WaitFigures,
     pub uptime_micros: u64,
+    pub opening: OpeningFigures,
     pub clients: u64,
     /// All clients that came since the start.
     pub clients_total: u64,

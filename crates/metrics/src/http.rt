@@ -33,12 +33,13 @@ pub fn route_of(bytes: &[u8]) -> Option<Route> {
         Ok(Status::Complete(head)) => {
             let method = bytes.get(head.method.start..head.method.end).unwrap_or(b"");
             let path = bytes.get(head.path.start..head.path.end).unwrap_or(b"");
+            let path = without_query(path);
             Some(match (method, path) {
-                (b"GET", b"/metrics") => Route::Metrics,
-                (b"GET", b"/status") => Route::Status,
+                (b"GET" | b"HEAD", b"/metrics") => Route::Metrics,
+                (b"GET" | b"HEAD", b"/status") => Route::Status,
                 (b"POST", b"/store") => Route::Store,
-                (b"GET", b"/store") => Route::BadMethod,
-                (b"GET", _) => Route::Unknown,
+                (b"GET" | b"HEAD", b"/store") => Route::BadMethod,
+                (b"GET" | b"HEAD", _) => Route::Unknown,
                 _ => Route::BadMethod,
             })
         }
@@ -46,6 +47,27 @@ pub fn route_of(bytes: &[u8]) -> Option<Route> {
         Ok(Status::Partial) => Some(Route::TooLong),
         Err(httparse::Error::TooManyHeaders) => Some(Route::TooLong),
         Err(_) => Some(Route::Malformed),
+    }
+}
+
+/// Whether a request asks for the head of its response alone.
+pub fn is_head(bytes: &[u8]) -> bool {
+    bytes.starts_with(b"HEAD ")
+}
+
+/// The head of a response, up to the empty line after it.
+pub fn head_of(response: &str) -> &str {
+    match response.split_once("\r\n\r\n") {
+        Some((head, _)) => response.get(..head.len() + 4).unwrap_or(response),
+        None => response,
+    }
+}
+
+// What stands before the question mark of a path, if it has one.
+fn without_query(path: &[u8]) -> &[u8] {
+    match path.iter().position(|byte| *byte == b'?') {
+        Some(end) => path.get(..end).unwrap_or(path),
+        None => path,
     }
 }
 

@@ -1,7 +1,7 @@
 //! Figures as JSON.
 
-use crate::figures::{Figures, LatencyFigures};
-use crate::sheet::{Family, Sheet, Unit, write_figures};
+use crate::figures::{Figures, LatencyFigures, OpeningFigures, Setup};
+use crate::sheet::{Family, Sheet, Unit, write_disk_full, write_figures, write_opening};
 use crate::tally::BOUNDS;
 use serde_json::{Map, Value};
 use std::alloc::{AllocError, Global};
@@ -27,6 +27,21 @@ impl Members {
             alloc,
             map: Map::new(alloc),
         }
+    }
+
+    // How a server runs, and its state.
+    fn put_setup(&mut self, setup: &Setup<'_>, state: &str) -> Result<(), AllocError> {
+        self.put_text("version", setup.version)?;
+        self.put_text("image", setup.image)?;
+        self.put_text("path", setup.path)?;
+        self.put_text("export", setup.export)?;
+        self.put_text("cache", setup.cache)?;
+        self.put_number("size", setup.size)?;
+        self.put_number("layout", setup.layout)?;
+        self.put_number("workers", setup.workers)?;
+        self.put_number("in_flight", setup.in_flight)?;
+        self.put_number("loss_bytes", setup.loss_bytes)?;
+        self.put_text("state", state)
     }
 
     fn put(&mut self, key: String, value: Value) -> Result<(), AllocError> {
@@ -102,16 +117,37 @@ impl Sheet for Members {
     }
 }
 
-/// The figures of the server of an image, as one JSON object in a line.
+/// The figures of a server, as one JSON object in a line; and why a call of the device has failed, if one has.
 pub fn status_text(
     alloc: Global,
-    version: &str,
-    image: &str,
+    setup: &Setup<'_>,
+    failure: &str,
     figures: &Figures,
 ) -> Result<String, AllocError> {
     let mut members = Members::new(alloc);
-    members.put_text("version", version)?;
-    members.put_text("image", image)?;
+    let state = if figures.has_failed {
+        "failed"
+    } else {
+        "serving"
+    };
+    members.put_setup(setup, state)?;
+    members.put_number("failed", u64::from(figures.has_failed))?;
+    members.put_text("failure", failure)?;
     write_figures(&mut members, figures)?;
+    Value::Object(members.map).to_string(alloc)
+}
+
+/// The figures of a server that still opens its image, as one JSON object in a line.
+pub fn opening_status_text(
+    alloc: Global,
+    setup: &Setup<'_>,
+    uptime_micros: u64,
+    opening: &OpeningFigures,
+    waits_for_space: bool,
+) -> Result<String, AllocError> {
+    let mut members = Members::new(alloc);
+    members.put_setup(setup, "opening")?;
+    write_opening(&mut members, uptime_micros, opening)?;
+    write_disk_full(&mut members, waits_for_space)?;
     Value::Object(members.map).to_string(alloc)
 }

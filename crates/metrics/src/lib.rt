@@ -10,10 +10,10 @@ mod tally;
 
 pub use figures::{
     CommandFigures, ErrorFigures, Figures, FrameFigures, JournalFigures, LatencyFigures,
-    NumberFigures, PendingFigures, RequestFigures, WorkFigures,
+    NumberFigures, OpeningFigures, PendingFigures, RequestFigures, Setup, WaitFigures, WorkFigures,
 };
-pub use http::{MOST_REQUEST_BYTES, Route, response, route_of};
-pub use json::status_text;
-pub use prometheus::metrics_text;
+pub use http::{MOST_REQUEST_BYTES, Route, head_of, is_head, response, route_of};
+pub use json::{opening_status_text, status_text};
+pub use prometheus::{metrics_text, opening_metrics_text};
 pub use sheet::{Family, Kind, Sheet, Unit, write_figures};
 pub use tally::{BOUNDS, Command, Counter, Failure, RequestTally, WorkTally, bucket_of};

@@ -1,7 +1,9 @@
 //! Figures in Prometheus' text format, version 0.0.4.
 
-use crate::figures::{Figures, LatencyFigures};
-use crate::sheet::{Family, Kind, Sheet, Unit, write_figures};
+use crate::figures::{Figures, LatencyFigures, OpeningFigures, Setup};
+use crate::sheet::{
+    Family, Kind, Sheet, Unit, gauge, write_disk_full, write_figures, write_opening,
+};
 use crate::tally::BOUNDS;
 use std::alloc::{AllocError, Global};
 use std::fmt::{self, Display, Formatter};
@@ -60,6 +62,62 @@ impl Lines {
         };
         writeln!(self.text, "# HELP nbdj_{name}{end} {}", family.help)?;
         writeln!(self.text, "# TYPE nbdj_{name}{end} {kind}")
+    }
+
+    // The families that tell which program serves what, how it runs, and whether it still opens the image.
+    fn write_start(&mut self, setup: &Setup<'_>, is_opening: bool) -> Result<(), AllocError> {
+        writeln!(
+            self.text,
+            "# HELP nbdj_build_info The version of the server, and its image."
+        )?;
+        writeln!(self.text, "# TYPE nbdj_build_info gauge")?;
+        writeln!(
+            self.text,
+            "nbdj_build_info{{version=\"{}\",image=\"{}\"}} 1",
+            setup.version,
+            Quoted(setup.image)
+        )?;
+        self.write_setup(setup)?;
+        self.figure(
+            gauge(
+                "opening",
+                "1 while the image is opened, when no client is served yet.",
+            ),
+            u64::from(is_opening),
+        )
+    }
+
+    // The family that tells how the server runs.
+    fn write_setup(&mut self, setup: &Setup<'_>) -> Result<(), AllocError> {
+        writeln!(self.text, "# HELP nbdj_info How the server runs.")?;
+        writeln!(self.text, "# TYPE nbdj_info gauge")?;
+        write!(
+            self.text,
+            "nbdj_info{{path=\"{}\",export=\"{}\",cache=\"{}\"",
+            Quoted(setup.path),
+            Quoted(setup.export),
+            setup.cache
+        )?;
+        writeln!(
+            self.text,
+            ",size=\"{}\",layout=\"{}\",workers=\"{}\",in_flight=\"{}\",loss_bytes=\"{}\"}} 1",
+            setup.size, setup.layout, setup.workers, setup.in_flight, setup.loss_bytes
+        )
+    }
+
+    // The family that tells whether the device has failed, and why.
+    fn write_failure(&mut self, failure: &str, has_failed: bool) -> Result<(), AllocError> {
+        writeln!(
+            self.text,
+            "# HELP nbdj_failed 1 once a call of the device has failed, and each request gets EIO; and why."
+        )?;
+        writeln!(self.text, "# TYPE nbdj_failed gauge")?;
+        writeln!(
+            self.text,
+            "nbdj_failed{{cause=\"{}\"}} {}",
+            Quoted(failure),
+            u8::from(has_failed)
+        )
     }
 
     // The value at the end of a line.
@@ -140,26 +198,35 @@ impl Sheet for Lines {
     }
 }
 
-/// The figures of the server of an image, in Prometheus' text format.
+/// The figures of a server, in Prometheus' text format; and why a call of the device has failed, if one has.
 pub fn metrics_text(
     alloc: Global,
-    version: &str,
-    image: &str,
+    setup: &Setup<'_>,
+    failure: &str,
     figures: &Figures,
 ) -> Result<String, AllocError> {
     let mut lines = Lines {
         text: String::new(alloc),
     };
-    writeln!(
-        lines.text,
-        "# HELP nbdj_build_info The version of the server, and its image."
-    )?;
-    writeln!(lines.text, "# TYPE nbdj_build_info gauge")?;
-    writeln!(
-        lines.text,
-        "nbdj_build_info{{version=\"{version}\",image=\"{}\"}} 1",
-        Quoted(image)
-    )?;
+    lines.write_start(setup, figures.opening.is_opening)?;
+    lines.write_failure(failure, figures.has_failed)?;
     write_figures(&mut lines, figures)?;
+    Ok(lines.text)
+}
+
+/// The figures of a server that still opens its image, in Prometheus' text format.
+pub fn opening_metrics_text(
+    alloc: Global,
+    setup: &Setup<'_>,
+    uptime_micros: u64,
+    opening: &OpeningFigures,
+    waits_for_space: bool,
+) -> Result<String, AllocError> {
+    let mut lines = Lines {
+        text: String::new(alloc),
+    };
+    lines.write_start(setup, opening.is_opening)?;
+    write_opening(&mut lines, uptime_micros, opening)?;
+    write_disk_full(&mut lines, waits_for_space)?;
     Ok(lines.text)
 }

@@ -1,6 +1,6 @@
 //! All figures, each with its name and what it means, as they are written down.
 
-use crate::figures::{Figures, LatencyFigures, RequestFigures, WorkFigures};
+use crate::figures::{Figures, LatencyFigures, OpeningFigures, RequestFigures, WorkFigures};
 use std::alloc::AllocError;
 
 /// How a figure changes.
@@ -67,7 +67,7 @@ fn time<'a>(name: &'a str, help: &'a str) -> Family<'a> {
     }
 }
 
-fn gauge<'a>(name: &'a str, help: &'a str) -> Family<'a> {
+pub(crate) fn gauge<'a>(name: &'a str, help: &'a str) -> Family<'a> {
     Family {
         name,
         help,
@@ -87,10 +87,7 @@ fn age<'a>(name: &'a str, help: &'a str) -> Family<'a> {
 
 /// Writes all figures down.
 pub fn write_figures<S: Sheet>(sheet: &mut S, figures: &Figures) -> Result<(), AllocError> {
-    sheet.figure(
-        age("uptime", "Time since the server started."),
-        figures.uptime_micros,
-    )?;
+    write_opening(sheet, figures.uptime_micros, &figures.opening)?;
     sheet.figure(
         gauge("clients", "Clients that are connected."),
         figures.clients,
@@ -104,6 +101,8 @@ pub fn write_figures<S: Sheet>(sheet: &mut S, figures: &Figures) -> Result<(), A
     write_groups(sheet, &figures.groups, &figures.syncs)?;
     write_journal(sheet, figures)?;
     write_checkpoints(sheet, figures)?;
+    write_waits(sheet, figures)?;
+    write_space(sheet, figures)?;
     sheet.figure(
         counter(
             "refused_allocations",
@@ -112,6 +111,46 @@ pub fn write_figures<S: Sheet>(sheet: &mut S, figures: &Figures) -> Result<(), A
         figures.refused_allocations,
     )?;
     write_numbers(sheet, figures)
+}
+
+/// Writes down how far the opening of the image is.
+pub(crate) fn write_opening<S: Sheet>(
+    sheet: &mut S,
+    uptime_micros: u64,
+    opening: &OpeningFigures,
+) -> Result<(), AllocError> {
+    sheet.figure(
+        age("uptime", "Time since the server started."),
+        uptime_micros,
+    )?;
+    sheet.figure(
+        gauge(
+            "opening_scanned_bytes",
+            "Bytes of the journal that the opening of the image has scanned.",
+        ),
+        opening.scanned_bytes,
+    )?;
+    sheet.figure(
+        gauge(
+            "opening_unscanned_bytes",
+            "Bytes of the journal that it has left to scan, at most.",
+        ),
+        opening.unscanned_bytes,
+    )?;
+    sheet.figure(
+        gauge(
+            "opening_copied_bytes",
+            "Bytes that it has copied from the journal into the image.",
+        ),
+        opening.copied_bytes,
+    )?;
+    sheet.figure(
+        gauge(
+            "opening_uncopied_bytes",
+            "Bytes that it has left to copy, at most.",
+        ),
+        opening.uncopied_bytes,
+    )
 }
 
 fn write_requests<S: Sheet>(sheet: &mut S, requests: &RequestFigures) -> Result<(), AllocError> {
@@ -277,6 +316,64 @@ fn write_checkpoints<S: Sheet>(sheet: &mut S, figures: &Figures) -> Result<(), A
     sheet.figure(
         time("write_delay", "Time by which they were slowed down."),
         delays.micros,
+    )
+}
+
+fn write_waits<S: Sheet>(sheet: &mut S, figures: &Figures) -> Result<(), AllocError> {
+    let waits = &figures.waits;
+    sheet.labelled(
+        counter(
+            "waits",
+            "Waits of writes before they were accepted, by what they waited for; throttle: slowed down.",
+        ),
+        "reason",
+        &[
+            ("journal", waits.journal.count),
+            ("frames", waits.frames.count),
+            ("loss_bytes", waits.loss_bytes.count),
+            ("loss_seconds", waits.loss_seconds.count),
+            ("throttle", waits.throttle.count),
+        ],
+    )?;
+    sheet.labelled(
+        time("wait", "Time that those waits took."),
+        "reason",
+        &[
+            ("journal", waits.journal.micros),
+            ("frames", waits.frames.micros),
+            ("loss_bytes", waits.loss_bytes.micros),
+            ("loss_seconds", waits.loss_seconds.micros),
+            ("throttle", waits.throttle.micros),
+        ],
+    )
+}
+
+/// Writes down whether a write of the device waits for space.
+pub(crate) fn write_disk_full<S: Sheet>(
+    sheet: &mut S,
+    waits_for_space: bool,
+) -> Result<(), AllocError> {
+    sheet.figure(
+        gauge(
+            "disk_full",
+            "1 while a write of the device waits for space on its disk.",
+        ),
+        u64::from(waits_for_space),
+    )
+}
+
+fn write_space<S: Sheet>(sheet: &mut S, figures: &Figures) -> Result<(), AllocError> {
+    write_disk_full(sheet, figures.waits_for_space)?;
+    sheet.figure(
+        counter(
+            "disk_full_waits",
+            "Writes of the device that have waited for space on its disk.",
+        ),
+        figures.space_waits.count,
+    )?;
+    sheet.figure(
+        time("disk_full_wait", "Time that those waits took."),
+        figures.space_waits.micros,
     )
 }
 

@@ -32,20 +32,16 @@ where
     env::var(rt, name).ok()?.as_str().parse().ok()
 }
 
-/// A socket that was handed over, and what is told of where it listens. It is taken once.
-pub fn take(rt: &HostRuntime, at: u8) -> io::Result<(Listener, String)> {
+/// A socket that was handed over. It is taken once.
+pub fn take(at: u8) -> io::Result<Listener> {
     let descriptor = FIRST + i32::from(at);
     let socket = unsafe { TcpListener::from_raw_fd(descriptor) };
     socket.set_nonblocking(false)?;
-    if let Ok(address) = socket.local_addr() {
-        let said = format!(in rt.alloc(); "{}", address.port())?;
-        return Ok((Listener::from(socket).into_shared(), said));
+    if socket.local_addr().is_ok() {
+        return Ok(Listener::from(socket).into_shared());
     }
     let socket = UnixListener::from(OwnedFd::from(socket));
-    let address = socket.local_addr()?;
-    let said = match address.as_pathname() {
-        Some(path) => format!(in rt.alloc(); "{}", path.as_str())?,
-        None => format!(in rt.alloc(); "fd {descriptor}")?,
-    };
-    Ok((Listener::from(socket).into_shared(), said))
+    // Fails where the descriptor is no socket.
+    let _address = socket.local_addr()?;
+    Ok(Listener::from(socket).into_shared())
 }

@@ -4,11 +4,17 @@
 ghost use Rattle.std.specs.Prelude.{ℕ};
 ghost use Rattle.nbdj_pipe.specs.Plan.{Suits};
 
+mod damage;
 mod device_watch;
+mod full_disk;
 mod handed;
 mod lock_guard;
 mod meter;
+mod notify;
 mod opening;
+mod opening_answers;
+mod opening_tally;
+mod placed_errors;
 mod second_handle;
 mod server_log;
 mod serving;
@@ -19,16 +25,18 @@ mod watched_file;
 
 use crate::device_watch::DeviceWatch;
 use crate::opening::Opening;
+use crate::placed_errors::{PlacedErrors, print_groups};
 use crate::server_log::Seconds;
 use crate::serving::serve_at;
 use crate::status_client::ask;
 use crate::teller::Teller;
 use clap::error::ErrorKind;
-use command_line::{address_fault, line};
+use command_line::{address_fault, last_given, line};
 use disk_model::{Disk, FileDisk};
 use front_end::{
-    Address, Course, FormatOptions, Invocation, Plan, Refusal, ServeOptions, ServedName,
+    Address, Course, FormatOptions, Invocation, OnFull, Plan, Refusal, ServeOptions, ServedName,
 };
+use header_slots::Header;
 use image_files::{
     ClosedStreams, FileFault, Locks, Opened, ToldFile, Wanted, header_of, open_for_reading,
     open_fresh, remove_made, try_fresh,
@@ -38,13 +46,15 @@ use nbdj_pipe::{exit_status, perform};
 use nbdj_sweep::{faults, sweep};
 use script_runner::script;
 use std::alloc::{AllocError, Global};
+use std::env::{Env, FillError};
 use std::fs::File;
+use std::io::Write;
 use std::process::ExitCode;
 use std::rt::Clock;
 use std::sync::{Arc, Wait};
 use std::thread::{self, Threads};
 use std::time::Duration;
-use std::{env, io};
+use std::{env, io, str};
 
 fn main(rt: HostRuntime) -> ExitCode {
     // Before anything else is opened, and kept to the end.
@@ -63,11 +73,46 @@ where
     R: Threads + Wait + Clock + Copy + Send + Sync + Drop + 'static,
 {
     let alloc = rt.alloc();
-    let arguments: Vec<String> = env::args(rt)?.collect(alloc)?;
+    let arguments: Vec<String> = match env::args(rt) {
+        Ok(arguments) => arguments.collect(alloc)?,
+        Err(error) if error.kind() == io::ErrorKind::OutOfMemory => return Err(error.into()),
+        Err(_) => return Ok(refuse_bytes(rt)),
+    };
     if let Some((path, limit)) = watched_path(alloc, &arguments)? {
         return run_watched(rt, threads, arguments, path, limit);
     }
     run_words(rt, threads, &arguments, None)
+}
+
+// The most bytes that are printed of an argument.
+const MOST_SHOWN: usize = 4_096;
+
+// Tells which argument isn't UTF-8, and gives the exit status. Nothing was done yet.
+fn refuse_bytes(rt: &HostRuntime) -> u8 {
+    let mut buffer = [0; MOST_SHOWN];
+    let mut errors = rt.stderr();
+    let _ = errors.write_all(b"nbdj: ");
+    for at in 0..usize::MAX {
+        let length = match rt.arg(at, &mut buffer) {
+            Ok(length) => length,
+            Err(FillError::TooLong) => continue,
+            Err(FillError::NotPresent) => break,
+        };
+        let shown = buffer.get(..length).unwrap_or(&[]);
+        if str::from_utf8(shown).is_err() {
+            let _ = errors.write_all(shown);
+            break;
+        }
+    }
+    // If it can't be written, the status alone tells.
+    let _ = errors.write_all(b" isn't UTF-8\n");
+    2
+}
+
+// The words of the command line, of which the last use of each option counts.
+fn words_of<'a>(alloc: Global, arguments: &'a [String]) -> Result<Vec<&'a str>, AllocError> {
+    let words: Vec<&str> = arguments.iter().map(|word| word.as_str()).collect(alloc)?;
+    last_given(alloc, &words)
 }
 
 // The path of the device that is watched while the command line is carried out, and how long a call of it may take; None where none is.
@@ -75,7 +120,7 @@ fn watched_path(
     alloc: Global,
     arguments: &[String],
 ) -> Result<Option<(String, Option<Duration>)>, AllocError> {
-    let words: Vec<&str> = arguments.iter().map(|word| word.as_str()).collect(alloc)?;
+    let words = words_of(alloc, arguments)?;
     let invocation = match line(alloc, &words) {
         Ok(invocation) => invocation,
         Err(fault) if fault.kind() == ErrorKind::OutOfMemory => return Err(AllocError),
@@ -159,7 +204,7 @@ where
     R: Threads + Wait + Clock + Copy + Send + Sync + Drop + 'static,
 {
     let alloc = rt.alloc();
-    let words: Vec<&str> = arguments.iter().map(|word| word.as_str()).collect(alloc)?;
+    let words = words_of(alloc, arguments)?;
     match line(alloc, &words) {
         Ok(invocation) => Ok(run(rt, threads, invocation, watch)),
         Err(fault) if fault.kind() == ErrorKind::OutOfMemory => Ok(no_memory(rt)),
@@ -219,7 +264,8 @@ where
                 until_eof: options.until_eof,
                 ..opening
             };
-            open_and_serve(&opening, addresses, *status, *name, *options)
+            let on_full = invocation.on_full;
+            open_and_serve(&opening, addresses, *status, *name, on_full, *options)
         }
         Plan::Pipe { path, .. } | Plan::Recover { path, .. } | Plan::Upgrade { path } => {
             let opening = Opening { path, ..opening };
@@ -229,16 +275,22 @@ where
                 Err(fault) => no_file(rt, teller, path, fault),
             }
         }
-        Plan::Check { path, .. } => {
+        Plan::Check { path, is_deep, .. } => {
             match open_for_reading(rt, path) {
                 Ok(opened) => {
                     let opened = teller.tell_header(path, opened);
-                    run_opened(rt, teller, &invocation.plan, path, opened)
+                    let again = opened.file.try_clone();
+                    let size = opened.size;
+                    let status = run_opened(rt, teller, &invocation.plan, path, opened);
+                    match again {
+                        Ok(file) if *is_deep => print_groups(rt, file, size, status),
+                        _ => status,
+                    }
                 }
                 Err(fault) => no_file(rt, teller, path, fault),
             }
         }
-        Plan::Status { socket, form } => ask(rt, threads, teller, socket, *form),
+        Plan::Status { socket, form } => ask(rt, threads, socket, *form),
         Plan::Rehearse { course } => run_script(rt, *course),
         Plan::Refuse { path, refusal } => match try_fresh(rt, path) {
             Ok(()) => exit_status(Err(*refusal), &mut rt.stderr()),
@@ -269,7 +321,7 @@ fn format(
                 geometry,
                 options,
             };
-            let status = run_on(rt, &plan, FileDisk::new(file, size));
+            let status = run_on(rt, teller, &plan, path, size, FileDisk::new(file, size));
             if status != 0 && is_new {
                 remove_made(rt, path);
             }
@@ -292,8 +344,9 @@ fn allocated_of(geometry: Geometry, options: FormatOptions) -> u64 {
 fn run_opened(rt: &HostRuntime, teller: Teller, plan: &Plan<'_>, path: &str, opened: Opened) -> u8
     requires { (extent : ℕ) → Suits plan.now extent }
 {
-    let (disk, _locks) = disk_of(rt, teller, opened, path);
-    run_on(rt, plan, disk)
+    let size = opened.size;
+    let (disk, _locks, _header) = disk_of(rt, teller, opened, path);
+    run_on(rt, teller, plan, path, size, disk)
 }
 
 // Opens a device and serves it.
@@ -302,6 +355,7 @@ fn open_and_serve<R>(
     addresses: &[Address<'_>],
     status: Option<&str>,
     name: ServedName<'_>,
+    on_full: OnFull,
     options: ServeOptions,
 ) -> u8
 where
@@ -325,29 +379,35 @@ where
     };
     // If the system has no second handle left reads wait for the first one.
     let second_handle = opened.file.try_clone().ok();
-    let (disk, _locks) = disk_of(rt, teller, opened, path);
+    let (disk, _locks, header) = disk_of(rt, teller, opened, path);
     serve_at(
         rt,
         threads,
         teller,
         path,
         disk,
+        header,
         second_handle,
         guard.as_ref(),
         addresses,
         status,
         name,
+        on_full,
         options,
     )
 }
 
-// The device of a file that was opened, and the locks on what else names it.
+// The device of a file that was opened, the locks on what else names it, and its header if it is an image.
 fn disk_of<'a>(
     rt: &HostRuntime,
     teller: Teller,
     opened: Opened,
     path: &'a str,
-) -> (FileDisk<ToldFile<'a, File, HostRuntime>>, Locks) {
+) -> (
+    FileDisk<ToldFile<'a, File, HostRuntime>>,
+    Locks,
+    Option<Header>,
+) {
     let Opened {
         file,
         size,
@@ -356,19 +416,26 @@ fn disk_of<'a>(
     } = opened;
     let (file, header) = header_of(file);
     let mut file = ToldFile::new(*rt, file, path, teller.tells_causes(), true);
-    if let Some(header) = header {
+    if let Some(header) = &header {
         file.tell_copying(rt, &header.geometry);
     }
-    (FileDisk::new(file, size), locks)
+    (FileDisk::new(file, size), locks, header)
 }
 
 // Carries out the plan on its device.
-fn run_on<D: Disk + Drop>(rt: &HostRuntime, plan: &Plan<'_>, disk: D) -> u8
+fn run_on<D: Disk + Drop>(
+    rt: &HostRuntime,
+    teller: Teller,
+    plan: &Plan<'_>,
+    path: &str,
+    size: u64,
+    disk: D,
+) -> u8
     requires { Suits plan.now (D.extent disk) }
 {
     let mut input = rt.reader();
     let mut output = io::writer(rt);
-    let mut errors = rt.stderr();
+    let mut errors = PlacedErrors::new(rt, path, size, teller.tells_causes());
     let (status, _disk) = perform(rt.alloc(), plan, disk, &mut input, &mut output, &mut errors);
     status
 }

@@ -1,13 +1,18 @@
 //! What `serve` counts for its figures.
 
-use export::ExportFigures;
+use crate::opening_tally::OpeningTally;
+use export::{ExportFigures, WaitReason};
+use header_slots::Header;
 use metrics::{
     Command, Counter, Failure, Figures, FrameFigures, JournalFigures, NumberFigures,
-    PendingFigures, RequestFigures, RequestTally, WorkTally,
+    PendingFigures, RequestFigures, RequestTally, WaitFigures, WorkTally,
 };
 use nbd_wire::{BLOCK_STATUS, Errno, FLUSH, READ, RequestHead, TRIM, WRITE, WRITE_ZEROES};
 use std::alloc::{AllocError, Global};
+use std::fmt::Display;
 use std::rt::Clock;
+use std::sync::atomic::{AtomicU64, Ordering};
+use std::sync::{Mutex, Wait};
 use std::time::{Duration, Instant};
 
 /// Each client counts in one of these tallies, so that clients seldom wait for one another's counts.
@@ -17,6 +22,8 @@ const TALLIES: usize = 16;
 #[derive(Drop)]
 pub struct Meter {
     started: Option<Instant>,
+    /// How far the opening of the image is.
+    pub opening: OpeningTally,
     requests: Vec<RequestTally>,
     pub came: Counter,
     pub left: Counter,
@@ -24,7 +31,22 @@ pub struct Meter {
     pub syncs: WorkTally,
     pub checkpoints: WorkTally,
     delays: WorkTally,
+    journal_waits: WorkTally,
+    frame_waits: WorkTally,
+    loss_byte_waits: WorkTally,
+    loss_second_waits: WorkTally,
+    /// Writes of the device that have waited for space on its disk, and how many wait now.
+    pub space_waits: WorkTally,
+    waiting_for_space: AtomicU64,
     pub shortages: Counter,
+    failure: Mutex<Option<Failed>>,
+}
+
+// The first call of the device that failed.
+#[derive(Drop)]
+struct Failed {
+    cause: String,
+    at: Option<Instant>,
 }
 
 /// The microseconds of a time.
@@ -33,14 +55,19 @@ pub fn micros_of(time: Duration) -> u64 {
 }
 
 impl Meter {
-    /// Nothing is counted yet.
-    pub fn new<R: Clock>(alloc: Global, rt: &R) -> Result<Meter, AllocError> {
+    /// Nothing is counted yet. The image has this header in force.
+    pub fn new<R: Clock>(
+        alloc: Global,
+        rt: &R,
+        header: Option<Header>,
+    ) -> Result<Meter, AllocError> {
         let mut requests = Vec::with_capacity(alloc, TALLIES)?;
         for _ in 0..TALLIES {
             requests.push(RequestTally::new(alloc)?)?;
         }
         Ok(Meter {
             started: Instant::now(rt).ok(),
+            opening: OpeningTally::new(header),
             requests,
             came: Counter::new(),
             left: Counter::new(),
@@ -48,8 +75,76 @@ impl Meter {
             syncs: WorkTally::new(),
             checkpoints: WorkTally::new(),
             delays: WorkTally::new(),
+            journal_waits: WorkTally::new(),
+            frame_waits: WorkTally::new(),
+            loss_byte_waits: WorkTally::new(),
+            loss_second_waits: WorkTally::new(),
+            space_waits: WorkTally::new(),
+            waiting_for_space: AtomicU64::new(0),
             shortages: Counter::new(),
+            failure: Mutex::new(None),
         })
+    }
+
+    /// Counts a wait of a write before it was accepted.
+    pub fn note_wait(&self, reason: WaitReason, took: Duration) {
+        let tally = match reason {
+            WaitReason::Journal => &self.journal_waits,
+            WaitReason::Frames => &self.frame_waits,
+            WaitReason::LossBytes => &self.loss_byte_waits,
+            WaitReason::LossSeconds => &self.loss_second_waits,
+        };
+        tally.note(1, 0, micros_of(took));
+    }
+
+    /// A write of the device begins to wait for space on its disk, or has ended such a wait.
+    pub fn begin_space_wait(&self) {
+        self.waiting_for_space.fetch_add(1, Ordering::Relaxed);
+    }
+
+    pub fn end_space_wait(&self, took: Duration) {
+        self.waiting_for_space.fetch_sub(1, Ordering::Relaxed);
+        self.space_waits.note(1, 0, micros_of(took));
+    }
+
+    /// Whether a write of the device waits for space on its disk.
+    pub fn waits_for_space(&self) -> bool {
+        self.waiting_for_space.load(Ordering::Relaxed) > 0
+    }
+
+    /// Notes the first call of the device that failed, and why.
+    pub fn note_failure<R: Wait + Clock, T: Display + Drop>(
+        &self,
+        alloc: Global,
+        rt: &R,
+        cause: T,
+    ) {
+        let mut failure = self.failure.lock(rt);
+        if failure.is_none() {
+            let cause = match format!(in alloc; "{cause}") {
+                Ok(cause) => cause,
+                Err(_) => String::new(alloc),
+            };
+            *failure = Some(Failed {
+                cause,
+                at: Instant::now(rt).ok(),
+            });
+        }
+    }
+
+    /// Why the first call of the device failed, and how long ago; None while none has.
+    pub fn failure<R: Wait + Clock>(
+        &self,
+        alloc: Global,
+        rt: &R,
+    ) -> Result<Option<(String, u64)>, AllocError> {
+        match &*self.failure.lock(rt) {
+            Some(failed) => {
+                let cause = String::from_str(alloc, failed.cause.as_str())?;
+                Ok(Some((cause, micros_since(rt, failed.at))))
+            }
+            None => Ok(None),
+        }
     }
 
     /// Counts a request of a client that has its answer.
@@ -79,22 +174,45 @@ impl Meter {
         }
     }
 
-    /// All figures, with those of an export.
-    pub fn figures<R: Clock>(&self, rt: &R, export: &ExportFigures) -> Figures {
+    /// All figures, with those of an export. `failed` is the time since a call of the device has failed, if one has: what is pending then
+    /// is older than that.
+    pub fn figures<R: Wait + Clock>(
+        &self,
+        rt: &R,
+        export: &ExportFigures,
+        failed: Option<u64>,
+    ) -> Figures {
         let mut requests = RequestFigures::NONE;
         for tally in self.requests.iter() {
             tally.add_to(&mut requests);
         }
         let came = self.came.get();
+        let known_age = micros_of(export.pending_age);
+        let age = match failed {
+            Some(since) if export.pending_commands > 0 => known_age.max(since),
+            _ => known_age,
+        };
+        let throttle = self.delays.figures();
         Figures {
+            has_failed: failed.is_some(),
+            waits_for_space: self.waits_for_space(),
+            space_waits: self.space_waits.figures(),
+            waits: WaitFigures {
+                journal: self.journal_waits.figures(),
+                frames: self.frame_waits.figures(),
+                loss_bytes: self.loss_byte_waits.figures(),
+                loss_seconds: self.loss_second_waits.figures(),
+                throttle,
+            },
             uptime_micros: self.uptime_micros(rt),
+            opening: self.opening.figures(rt),
             clients: came.saturating_sub(self.left.get()),
             clients_total: came,
             requests,
             pending: PendingFigures {
                 commands: export.pending_commands,
                 bytes: export.pending_bytes,
-                oldest_micros: micros_of(export.pending_age),
+                oldest_micros: age,
             },
             groups: self.groups.figures(),
             syncs: self.syncs.figures(),
@@ -110,7 +228,7 @@ impl Meter {
                 free: export.free_frames,
             },
             checkpoints: self.checkpoints.figures(),
-            delays: self.delays.figures(),
+            delays: throttle,
             refused_allocations: self.shortages.get(),
             numbers: NumberFigures {
                 base: export.base,
@@ -120,11 +238,17 @@ impl Meter {
         }
     }
 
-    fn uptime_micros<R: Clock>(&self, rt: &R) -> u64 {
-        match self.started {
-            Some(started) => micros_of(started.elapsed(rt).unwrap_or(Duration::ZERO)),
-            None => 0,
-        }
+    /// The time since the start.
+    pub fn uptime_micros<R: Clock>(&self, rt: &R) -> u64 {
+        micros_since(rt, self.started)
+    }
+}
+
+// The microseconds since a moment; 0 where there is none.
+fn micros_since<R: Clock>(rt: &R, moment: Option<Instant>) -> u64 {
+    match moment {
+        Some(moment) => micros_of(moment.elapsed(rt).unwrap_or(Duration::ZERO)),
+        None => 0,
     }
 }
 

@@ -2,12 +2,18 @@ use crate::server_log::{ServerLog, Topic};
 use crate::watched_file::WatchedFile;
 use disk_model::DeviceFault;
 use export::{ExportName, NotedBase, ReadUnlocked};
+use image_files::begin_reading;
 use image_model::Geometry;
 use order_book::{Order, Span};
 use std::fs::File;
 use std::os::unix::fs::FileExt;
 use std::rt::Clock;
 use std::sync::Wait;
+
+// The proofs alone use its value, by which they tell what a handle gave: see `export/specs/Unlocked.antt`.
+enum Seal {
+    Whole,
+}
 
 /// A second handle of a device's file, whose reads that fail are told.
 #[derive(Drop)]
@@ -17,10 +23,13 @@ pub struct SecondHandle<'a, R: Wait + Clock> {
 }
 
 impl<'a, R: Wait + Clock> ReadUnlocked for SecondHandle<'a, R> {
-    // Nothing is claimed of what a file holds.
-    ghost gives = { λ handle asked offset bytes. Unit {0} };
+    ghost use Rattle.export.specs.Unlocked.{Gave, Vouched};
+    ghost use Rattle.nbdj.specs.declared.second_handle.Seal.{Seal};
 
-    ghost vouches = { λ handle read. Unit {0} };
+    // What its reads gave. That this is what the file holds is a premise.
+    ghost gives = { λ handle asked offset bytes. Gave Seal handle asked offset bytes };
+
+    ghost vouches = { λ handle read. Vouched Seal handle read };
 
     fn read_unlocked(
         &self,
@@ -39,6 +48,10 @@ impl<'a, R: Wait + Clock> ReadUnlocked for SecondHandle<'a, R> {
                 Err(DeviceFault)
             }
         }
+    }
+
+    fn prefetch(&self, offset: u64, length: u64) {
+        begin_reading(&self.file.file, offset, length);
     }
 
     fn vouch<B: ExportName>(

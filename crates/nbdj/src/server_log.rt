@@ -2,6 +2,7 @@
 
 use crate::lock_guard::LockGuard;
 use crate::meter::micros_of;
+use crate::notify::notify;
 use crate::status_socket::{ANSWERERS, StatusSocket};
 use export::{Point, SyncPoints};
 use front_end::WhenFull;
@@ -33,6 +34,9 @@ const LAST_WAIT: u64 = 1;
 /// What a line is about.
 #[derive(Clone, Copy, PartialEq, Eq)]
 pub enum Topic {
+    Started,
+    Ended,
+    Misnamed,
     Recovered,
     Came,
     Full,
@@ -45,7 +49,7 @@ pub enum Topic {
     Unlocked,
 }
 
-const TOPICS: usize = 10;
+const TOPICS: usize = 13;
 
 impl Topic {
     fn place(self) -> usize {
@@ -60,6 +64,9 @@ impl Topic {
             Topic::NoMemory => 7,
             Topic::Unaccepted => 8,
             Topic::Unlocked => 9,
+            Topic::Started => 10,
+            Topic::Ended => 11,
+            Topic::Misnamed => 12,
         }
     }
 
@@ -302,6 +309,32 @@ impl<'a, R: Wait + Clock> ServerLog<'a, R> {
         );
     }
 
+    /// Tells a line, however many came before it; of one for which there is no room it is told that it was left out.
+    pub fn say<T: Display + Drop>(&self, line: T) {
+        self.lines.lines.lock(self.rt).add(line);
+        self.lines.added.notify_one();
+    }
+
+    /// A write of the device begins to wait for space on its disk, or has ended such a wait.
+    pub fn begin_space_wait(&self) {
+        if let Some(status) = self.status {
+            status.meter.begin_space_wait();
+        }
+    }
+
+    pub fn end_space_wait(&self, took: Duration) {
+        if let Some(status) = self.status {
+            status.meter.end_space_wait(took);
+        }
+    }
+
+    // Counts that a call of the device has failed.
+    fn count_failure<T: Display + Drop>(&self, cause: T) {
+        if let Some(status) = self.status {
+            status.note_failure(self.rt, cause);
+        }
+    }
+
     // Counts what a thread of the export has done.
     fn count_point(&self, at: Point) {
         let Some(status) = self.status else {
@@ -317,6 +350,7 @@ impl<'a, R: Wait + Clock> ServerLog<'a, R> {
                 status.meter.checkpoints.note(blocks, 0, micros_of(took));
             }
             Point::NoMemory => status.meter.shortages.add(1),
+            Point::Waited { reason, took } => status.meter.note_wait(reason, took),
             Point::Append | Point::Step | Point::Answered => {}
         }
     }
@@ -358,11 +392,11 @@ impl<'a, R: Wait + Clock> ServerLog<'a, R> {
     }
 }
 
-/// Lines about the device's file; none is held back.
+/// Lines about a call of the device that failed; none is held back.
 impl<'a, R: Wait + Clock> FileLines for ServerLog<'a, R> {
     fn tell_line<T: Display + Drop>(&self, line: T) {
-        self.lines.lines.lock(self.rt).add(line);
-        self.lines.added.notify_one();
+        self.count_failure(format_args!("{line}"));
+        self.say(line);
     }
 }
 
@@ -372,6 +406,8 @@ pub struct ServerWatch<'a, 'b, R> {
     pub host: HostRuntime,
     pub log: ServerLog<'a, R>,
     pub announcement: &'b str,
+    /// The name of the export.
+    pub name: &'b [u8],
     pub guard: Option<&'b LockGuard<'b>>,
 }
 
@@ -388,7 +424,11 @@ impl<'a, 'b, R: Wait + Clock> SyncPoints for ServerWatch<'a, 'b, R> {
                 Topic::NoMemory,
                 "no memory to store what was written, which is tried again",
             ),
-            Point::Stored { .. } | Point::Append | Point::Step | Point::Answered => {}
+            Point::Stored { .. }
+            | Point::Append
+            | Point::Step
+            | Point::Waited { .. }
+            | Point::Answered => {}
         }
     }
 }
@@ -397,7 +437,9 @@ impl<'a, 'b, R: Wait + Clock> Watch for ServerWatch<'a, 'b, R> {
     fn announce(&self) -> io::Result<()> {
         let mut output = io::writer(&self.host);
         output.write_all(self.announcement.as_bytes())?;
-        output.flush()
+        output.flush()?;
+        notify(&self.host, "READY=1\nSTATUS=clients are served\n");
+        Ok(())
     }
 
     fn note(&self, event: Event<'_>) {
@@ -423,6 +465,13 @@ impl<'a, 'b, R: Wait + Clock> Watch for ServerWatch<'a, 'b, R> {
                 self.log.tell(
                     Topic::Unaccepted,
                     format_args!("a client can't be accepted: {error}"),
+                );
+            }
+            Event::Unagreed { name, .. } if name == self.name => {}
+            Event::Unagreed { client, name } => {
+                self.log.tell(
+                    Topic::Misnamed,
+                    format_args!("client {client} asked for another export, '{}'", Name(name)),
                 );
             }
             Event::Agreed { client, flags } => {
@@ -471,18 +520,41 @@ impl<'a, 'b, R: Wait + Clock> Watch for ServerWatch<'a, 'b, R> {
         if at == 0 {
             guard.cut_when_late(self.log.rt, watched);
         } else if let Err(error) = guard.check_on(self.log.rt, watched) {
+            self.log.count_failure(format_args!("lock check: {error}"));
             self.log
                 .tell(Topic::Unlocked, format_args!("lock check: {error}"));
         }
     }
 
     fn end_answers(&self) {
+        notify(
+            &self.host,
+            "STOPPING=1\nSTATUS=no client is served any more\n",
+        );
         if let Some(status) = self.log.status {
             status.end();
         }
         if let Some(guard) = self.guard {
             guard.watch.end_guards(self.log.rt);
         }
+    }
+}
+
+// A name as a client has sent it, with a question mark for each byte that isn't of a plain letter, digit or sign.
+#[derive(Clone, Copy)]
+struct Name<'a>(&'a [u8]);
+
+impl Display for Name<'_> {
+    fn fmt<W: fmt::Write>(&self, f: &mut Formatter<W>) -> fmt::Result {
+        for byte in self.0 {
+            let letter = if byte.is_ascii_graphic() || *byte == b' ' {
+                *byte
+            } else {
+                b'?'
+            };
+            write!(f, "{}", letter as char)?;
+        }
+        Ok(())
     }
 }
 

@@ -1,18 +1,23 @@
 //! The sockets of a server.
 
+use crate::damage::place_of;
 use crate::handed;
 use crate::lock_guard::LockGuard;
 use crate::meter::Meter;
+use crate::opening_answers::open_answered;
 use crate::second_handle::SecondHandle;
-use crate::server_log::{LogLines, ServerLog, ServerWatch};
+use crate::server_log::{LogLines, ServerLog, ServerWatch, Topic};
 use crate::status_socket::StatusSocket;
 use crate::teller::Teller;
 use crate::watched_file::WatchedFile;
 use disk_model::{Disk, FileDisk};
 use export::OpenDevice;
-use front_end::{Address, Refusal, ServeOptions, ServedName};
-use header_slots::read_current;
+use export_model::Mode;
+use front_end::{Address, OnFull, Refusal, ServeOptions, ServedName, VERSION};
+use header_slots::{Header, read_current};
 use image_files::ToldFile;
+use image_model::{BLOCK_BYTES, Layout};
+use metrics::Setup;
 use nbdj_pipe::exit_status;
 use negotiation::OfferedName;
 use server::{Listener, serve};
@@ -20,7 +25,7 @@ use std::fmt::{Display, Write};
 use std::fs::{self, File, Permissions};
 use std::io::{self, ErrorKind, Read};
 use std::net::TcpListener;
-use std::os::unix::fs::{FileTypeExt, PermissionsExt};
+use std::os::unix::fs::{FileTypeExt, MetadataExt, PermissionsExt};
 use std::os::unix::net::{UnixListener, UnixStream};
 use std::rt::Clock;
 use std::sync::Wait;
@@ -38,51 +43,145 @@ pub fn serve_at<R: Threads + Wait + Clock + Copy + Send + Sync + Drop + 'static>
     teller: Teller,
     path: &str,
     disk: FileDisk<ToldFile<'_, File, HostRuntime>>,
+    header: Option<Header>,
     second_handle: Option<File>,
     guard: Option<&LockGuard<'_>>,
     addresses: &[Address<'_>],
     status: Option<&str>,
     name: ServedName<'_>,
+    on_full: OnFull,
     options: ServeOptions,
 ) -> u8 {
     let Ok(lines) = LogLines::start(rt, threads) else {
         return exit_status(Err(Refusal::NoMemory), &mut rt.stderr());
     };
     let log = ServerLog::new(threads, &lines, path, teller.is_verbose());
+    let size = disk.size();
     let outcome = match Name::new(rt, teller, name) {
         Err(refusal) => Err(refusal),
-        Ok(name) => match status {
-            None => serve_device(
-                rt,
-                teller,
-                log,
-                disk,
-                second_handle,
-                guard,
-                addresses,
-                &name,
-                options,
-            ),
-            Some(at) => serve_with_status(
-                rt,
-                teller,
-                log,
-                disk,
-                second_handle,
-                guard,
-                at,
-                addresses,
-                &name,
-                options,
-            ),
-        },
+        Ok(name) => {
+            let absolute = fs::canonicalize(rt, path).ok();
+            let absolute = match &absolute {
+                Some(absolute) => absolute.as_path().as_str(),
+                None => path,
+            };
+            let setup = setup_of(path, absolute, header, &name, &options);
+            tell_start(log, &setup);
+            match status {
+                None => serve_device(
+                    rt,
+                    teller,
+                    log,
+                    disk,
+                    second_handle,
+                    guard,
+                    addresses,
+                    &name,
+                    on_full,
+                    options,
+                ),
+                Some(at) => serve_with_status(
+                    rt,
+                    teller,
+                    log,
+                    disk,
+                    second_handle,
+                    guard,
+                    at,
+                    header,
+                    setup,
+                    addresses,
+                    &name,
+                    on_full,
+                    options,
+                ),
+            }
+        }
     };
+    match &outcome {
+        Ok(()) => log.tell(
+            Topic::Ended,
+            "ended as asked; every answered write is stored",
+        ),
+        Err(refusal) => say_place(rt, log, size, *refusal),
+    }
     let mut last = [0; LAST_LINE];
     let mut room = last.as_mut_slice();
     let exit = exit_status(outcome, &mut room);
     let length = LAST_LINE.saturating_sub(room.len());
     log.finish(last.get(..length).unwrap_or(&[]).trim_ascii_end());
     exit
+}
+
+// Tells where the image is damaged, if the refusal says that it is.
+fn say_place<R: Wait + Clock>(
+    rt: &HostRuntime,
+    log: ServerLog<'_, R>,
+    size: u64,
+    refusal: Refusal,
+) {
+    let path = log.path();
+    if let Ok(file) = File::open(rt, path) {
+        if let Some(place) = place_of(rt.alloc(), file, size, refusal) {
+            log.say(format_args!("{path}: {place}"));
+        }
+    }
+}
+
+// How the server runs.
+fn setup_of<'a>(
+    image: &'a str,
+    path: &'a str,
+    header: Option<Header>,
+    name: &'a Name,
+    options: &ServeOptions,
+) -> Setup<'a> {
+    let (blocks, layout) = match header {
+        Some(header) => (header.geometry.blocks, header.geometry.layout),
+        // It is no image, and isn't served.
+        None => (0, Layout::One),
+    };
+    Setup {
+        version: VERSION,
+        image,
+        path,
+        export: name.text.as_str(),
+        cache: match options.mode {
+            Mode::Writeback => "writeback",
+            Mode::Writethrough => "writethrough",
+            Mode::Ordered => "ordered",
+        },
+        size: blocks.saturating_mul(BLOCK_BYTES),
+        layout: match layout {
+            Layout::One => 1,
+            Layout::Two => 2,
+        },
+        workers: u64::from(options.workers),
+        in_flight: u64::from(options.in_flight),
+        loss_bytes: options.limits.loss_bytes,
+    }
+}
+
+// Tells how the server runs.
+fn tell_start<R: Wait + Clock>(log: ServerLog<'_, R>, setup: &Setup<'_>) {
+    let Setup {
+        version,
+        path,
+        export,
+        cache,
+        size,
+        layout,
+        workers,
+        in_flight,
+        loss_bytes,
+        ..
+    } = *setup;
+    log.tell(
+        Topic::Started,
+        format_args!(
+            "nbdj {version} serves {path} as '{export}': {size} bytes in layout {layout}, {cache}, {workers} workers, {in_flight} in flight, at most {loss_bytes} bytes pending"
+        ),
+    );
 }
 
 // The name by which clients ask for the export.
@@ -136,14 +235,18 @@ fn serve_with_status<R: Threads + Wait + Clock + Copy + Send + Sync + Drop + 'st
     second_handle: Option<File>,
     guard: Option<&LockGuard<'_>>,
     status: &str,
+    header: Option<Header>,
+    setup: Setup<'_>,
     addresses: &[Address<'_>],
     name: &Name,
+    on_full: OnFull,
     options: ServeOptions,
 ) -> Result<(), Refusal> {
-    let Ok(meter) = Meter::new(rt.alloc(), rt) else {
+    let Ok(meter) = Meter::new(rt.alloc(), rt, header) else {
         return Err(Refusal::NoMemory);
     };
-    let socket = open_status(rt, teller, log.path(), status, &meter)?;
+    let socket = open_status(rt, teller, setup, status, &meter)?;
+    let file = SocketFile::new(rt, status);
     let log = log.with_status(&socket);
     let outcome = serve_device(
         rt,
@@ -154,23 +257,52 @@ fn serve_with_status<R: Threads + Wait + Clock + Copy + Send + Sync + Drop + 'st
         guard,
         addresses,
         name,
+        on_full,
         options,
     );
-    // If it can't be removed the next server replaces it.
-    let _ = fs::remove_file(rt, status);
+    file.remove(rt);
     outcome
+}
+
+// The file of a socket that was made. Only this one is removed at the end: another server may have made its own there since.
+#[derive(Drop)]
+struct SocketFile<'a> {
+    path: &'a str,
+    made: Option<(u64, u64)>,
+}
+
+impl<'a> SocketFile<'a> {
+    fn new(rt: &HostRuntime, path: &'a str) -> SocketFile<'a> {
+        SocketFile {
+            path,
+            made: identity_of(rt, path),
+        }
+    }
+
+    // If it can't be removed, the next server replaces it.
+    fn remove(&self, rt: &HostRuntime) {
+        if self.made.is_some() && self.made == identity_of(rt, self.path) {
+            let _ = fs::remove_file(rt, self.path);
+        }
+    }
+}
+
+// The device and the number of the file that stands there, if there is one.
+fn identity_of(rt: &HostRuntime, path: &str) -> Option<(u64, u64)> {
+    let metadata = fs::symlink_metadata(rt, path).ok()?;
+    Some((metadata.dev(), metadata.ino()))
 }
 
 // The socket where figures are told, to nobody but root and the server's own user.
 fn open_status<'a>(
     rt: &HostRuntime,
     teller: Teller,
-    image: &'a str,
+    setup: Setup<'a>,
     path: &str,
     meter: &'a Meter,
 ) -> Result<StatusSocket<'a>, Refusal> {
     let opened = match bind_unix(rt, path, Some(0o600)) {
-        Ok(listener) => StatusSocket::new(rt.alloc(), listener, image, meter),
+        Ok(listener) => StatusSocket::new(rt.alloc(), listener, setup, meter),
         Err(error) => Err(error),
     };
     match opened {
@@ -189,6 +321,7 @@ fn serve_device<'a, R: Threads + Wait + Clock + Copy + Send + Sync + Drop + 'sta
     guard: Option<&'a LockGuard<'a>>,
     addresses: &[Address<'_>],
     name: &Name,
+    on_full: OnFull,
     options: ServeOptions,
 ) -> Result<(), Refusal> {
     let threads = log.threads();
@@ -203,22 +336,40 @@ fn serve_device<'a, R: Threads + Wait + Clock + Copy + Send + Sync + Drop + 'sta
                 rt: threads,
                 watch,
                 syncs: None,
+                opening: None,
+                full: None,
             },
             log,
         }),
         None => None,
     };
     let size = disk.size();
+    let waits = on_full == OnFull::Wait;
+    let file = disk.into_file().tell_by(log);
     let file = WatchedFile {
-        file: disk.into_file().tell_by(log),
+        file: if waits {
+            file.with_full_retried()
+        } else {
+            file
+        },
         rt: threads,
         watch,
         syncs: match log.status() {
             Some(socket) => Some(&socket.meter.syncs),
             None => None,
         },
+        opening: match log.status() {
+            Some(socket) => Some(&socket.meter.opening),
+            None => None,
+        },
+        full: if waits { Some(log) } else { None },
     };
-    match open_device(rt, log, FileDisk::new(file, size), second_handle) {
+    let disk = FileDisk::new(file, size);
+    let opened = match log.status() {
+        Some(socket) => open_answered(rt, log, socket, disk, second_handle),
+        None => open_device(rt, log, disk, second_handle),
+    };
+    match opened {
         Ok(device) => listen(
             rt, threads, teller, log, guard, device, addresses, name, options,
         ),
@@ -226,11 +377,11 @@ fn serve_device<'a, R: Threads + Wait + Clock + Copy + Send + Sync + Drop + 'sta
     }
 }
 
-// The device of a server.
-type ServedDisk<'a, R> = FileDisk<WatchedFile<'a, ToldFile<'a, File, ServerLog<'a, R>>, R>>;
+/// The device of a server.
+pub type ServedDisk<'a, R> = FileDisk<WatchedFile<'a, ToldFile<'a, File, ServerLog<'a, R>>, R>>;
 
-// Opens a device, and tells how many commands that has recovered.
-fn open_device<'a, 'b, R: Wait + Clock>(
+/// Opens a device, and tells how many commands that has recovered.
+pub fn open_device<'a, 'b, R: Wait + Clock>(
     rt: &HostRuntime,
     log: ServerLog<'b, R>,
     disk: ServedDisk<'a, R>,
@@ -283,11 +434,12 @@ fn listen<R: Threads + Wait + Clock + Copy + Send + Sync + Drop + 'static>(
         files: Vec::new(rt.alloc()),
     };
     let opened = if addresses.is_empty() {
+        tell_fresh_name(log, name);
         made.take_handed(teller)
     } else {
         made.open_all(teller, addresses)
+            .and_then(|()| made.tell_name(name))
     };
-    let opened = opened.and_then(|()| made.tell_name(name));
     let Made {
         listeners,
         said,
@@ -296,10 +448,13 @@ fn listen<R: Threads + Wait + Clock + Copy + Send + Sync + Drop + 'static>(
     } = made;
     let outcome = match opened {
         Ok(()) => {
+            let wanted = listeners.len().saturating_add(options.workers as usize);
+            tell_few_descriptors(rt, log, wanted.saturating_add(SPARE_DESCRIPTORS));
             let watch = ServerWatch {
                 host: *rt,
                 log,
                 announcement: said.as_str(),
+                name: name.text.as_bytes(),
                 guard,
             };
             let (outcome, _disk) = serve(
@@ -317,10 +472,52 @@ fn listen<R: Threads + Wait + Clock + Copy + Send + Sync + Drop + 'static>(
         Err(refusal) => Err(refusal),
     };
     for file in files {
-        // If it can't be removed, the next server replaces it.
-        let _ = fs::remove_file(rt, file);
+        file.remove(rt);
     }
     outcome
+}
+
+// The descriptors that a server may want beside those of its sockets and its clients: those of who asks for figures, and one to spare.
+const SPARE_DESCRIPTORS: usize = 5;
+
+// The errors of a system that has no descriptor left, for the process or at all.
+const NO_DESCRIPTOR: [i32; 2] = [24, 23];
+
+// Tells if fewer descriptors are free than the server may want.
+fn tell_few_descriptors<R: Wait + Clock>(rt: &HostRuntime, log: ServerLog<'_, R>, wanted: usize) {
+    let mut taken = Vec::new(rt.alloc());
+    for _ in 0..wanted {
+        match File::open(rt, "/dev/null") {
+            Ok(file) => {
+                if taken.push(file).is_err() {
+                    return;
+                }
+            }
+            Err(error)
+                if error
+                    .raw_os_error()
+                    .is_some_and(|code| NO_DESCRIPTOR.contains(&code)) => {
+                break;
+            }
+            Err(_) => return,
+        }
+    }
+    let free = taken.len();
+    drop(taken);
+    if free < wanted {
+        let path = log.path();
+        log.say(format_args!(
+            "{path}: {free} file descriptors are free, and {wanted} may be wanted: see ulimit -n"
+        ));
+    }
+}
+
+// Tells a name that nobody can know on standard error, because nothing goes to standard output.
+fn tell_fresh_name<R: Wait + Clock>(log: ServerLog<'_, R>, name: &Name) {
+    if name.is_fresh {
+        let path = log.path();
+        log.say(format_args!("{path}: export {}", name.text));
+    }
 }
 
 // Sockets at which clients arrive.
@@ -331,7 +528,7 @@ struct Made<'a> {
     // A line for each of them, which says where it listens, and one for a name that nobody can know.
     said: String,
     // The files of those that were made.
-    files: Vec<&'a str>,
+    files: Vec<SocketFile<'a>>,
 }
 
 impl<'a> Made<'a> {
@@ -352,7 +549,8 @@ impl<'a> Made<'a> {
             },
             Address::Unix { path, mode } => match bind_unix(rt, path, mode) {
                 Ok(listener) => {
-                    self.files.push(path).ok().ok_or(Refusal::NoMemory)?;
+                    let file = SocketFile::new(rt, path);
+                    self.files.push(file).ok().ok_or(Refusal::NoMemory)?;
                     self.add(Listener::from(listener), path)
                 }
                 Err(error) => Err(no_socket(teller, path, &error)),
@@ -360,11 +558,12 @@ impl<'a> Made<'a> {
         }
     }
 
-    // Takes the sockets that the process was started with.
+    // Takes the sockets that the process was started with. Whoever made them knows where they are, and standard output may be the
+    // caller's: nothing is printed.
     fn take_handed(&mut self, teller: Teller) -> Result<(), Refusal> {
         for at in 0..handed::count(&self.rt) {
-            match handed::take(&self.rt, at) {
-                Ok((listener, said)) => self.add(listener, said)?,
+            match handed::take(at) {
+                Ok(listener) => self.push(listener)?,
                 Err(error) => {
                     return Err(no_socket(teller, "LISTEN_FDS", &error));
                 }
@@ -385,6 +584,10 @@ impl<'a> Made<'a> {
         if writeln!(self.said, "listening {said}").is_err() {
             return Err(Refusal::NoMemory);
         }
+        self.push(listener)
+    }
+
+    fn push(&mut self, listener: Listener) -> Result<(), Refusal> {
         self.listeners.push(listener).ok().ok_or(Refusal::NoMemory)
     }
 }

@@ -1,9 +1,9 @@
 //! What `nbdj status` asks of a server, and how it prints that.
 
-use crate::teller::Teller;
 use front_end::StatusForm;
 use httparse::Status;
 use httparse::spans::{EMPTY_HEADER_SPAN, parse_response};
+use metrics::BOUNDS;
 use serde_json::Value;
 use std::fmt::{self, Display, Formatter};
 use std::io::{self, ErrorKind, IsTerminal, Read, Write};
@@ -32,13 +32,7 @@ const MOST_BYTES: usize = 65_536;
 const PATIENCE: u64 = 5;
 
 // Asks the server at this socket for its figures and prints them; the exit status.
-pub fn ask<R: Wait + Clock>(
-    rt: &HostRuntime,
-    waits: &R,
-    teller: Teller,
-    socket: &str,
-    form: StatusForm,
-) -> u8 {
+pub fn ask<R: Wait + Clock>(rt: &HostRuntime, waits: &R, socket: &str, form: StatusForm) -> u8 {
     let printed = match form {
         StatusForm::Json => print_json(rt, socket),
         StatusForm::Lines => print_lines(rt, socket),
@@ -46,64 +40,112 @@ pub fn ask<R: Wait + Clock>(
         StatusForm::Store => store(rt, waits, socket),
     };
     match printed {
-        Ok(()) => 0,
-        Err(error) => {
-            teller.tell(socket, format_args!("{error}"));
+        Ok(()) => return 0,
+        Err(AskFault::Unprinted(error)) => {
+            // If not even that can be written, the status alone tells.
+            let _ = eprintln!(rt; "nbdj: standard output: {error}");
+        }
+        Err(AskFault::Unanswered(error)) => {
+            tell_unanswered(rt, socket, &error);
             let _ = match form {
                 StatusForm::Store => eprintln!(rt; "nbdj: not stored by {socket}"),
                 _ => eprintln!(rt; "nbdj: no figures from {socket}"),
             };
-            1
         }
     }
+    1
 }
 
-fn print_json(rt: &HostRuntime, socket: &str) -> io::Result<()> {
-    let body = fetch(rt, socket)?;
-    let mut output = io::writer(rt);
-    writeln!(output, "{body}")?;
-    output.flush()
+// Why there is nothing to print, or why it can't be printed.
+#[derive(Drop)]
+enum AskFault {
+    Unanswered(io::Error),
+    Unprinted(io::Error),
 }
 
-fn print_lines(rt: &HostRuntime, socket: &str) -> io::Result<()> {
-    let figures = figures_of(rt, &fetch(rt, socket)?)?;
+// What the server says, or why it says nothing.
+fn answered<T>(answer: io::Result<T>) -> Result<T, AskFault> {
+    answer.map_err(AskFault::Unanswered)
+}
+
+fn printed(done: io::Result<()>) -> Result<(), AskFault> {
+    done.map_err(AskFault::Unprinted)
+}
+
+// Tells why a server doesn't answer.
+fn tell_unanswered(rt: &HostRuntime, socket: &str, error: &io::Error) {
+    let _ = match error.kind() {
+        ErrorKind::NotFound => eprintln!(rt; "nbdj: {socket}: there is no such socket"),
+        ErrorKind::PermissionDenied => eprintln!(rt;
+            "nbdj: {socket}: only root and the server's user can connect"
+        ),
+        ErrorKind::ConnectionRefused => eprintln!(rt;
+            "nbdj: {socket}: no server listens there any more"
+        ),
+        ErrorKind::WouldBlock | ErrorKind::TimedOut => eprintln!(rt;
+            "nbdj: {socket}: the server doesn't answer within {PATIENCE} seconds"
+        ),
+        ErrorKind::Other => eprintln!(rt; "nbdj: {socket}: the server answers that it can't"),
+        _ => eprintln!(rt; "nbdj: {socket}: {error}"),
+    };
+}
+
+fn print_json(rt: &HostRuntime, socket: &str) -> Result<(), AskFault> {
+    let body = answered(fetch(rt, socket))?;
     let mut output = io::writer(rt);
-    write_page(&mut output, &figures, None)?;
-    output.flush()
+    printed(writeln!(output, "{body}"))?;
+    printed(output.flush())
+}
+
+fn print_lines(rt: &HostRuntime, socket: &str) -> Result<(), AskFault> {
+    let figures = answered(fetch_figures(rt, socket))?;
+    let mut output = io::writer(rt);
+    printed(write_page(&mut output, &figures, None))?;
+    printed(output.flush())
 }
 
 // Prints the figures each second until the server or the reader is gone.
-fn watch<R: Wait + Clock>(rt: &HostRuntime, waits: &R, socket: &str) -> io::Result<()> {
+fn watch<R: Wait + Clock>(rt: &HostRuntime, waits: &R, socket: &str) -> Result<(), AskFault> {
     let is_screen = rt.stdout().is_terminal();
-    let mut before = figures_of(rt, &fetch(rt, socket)?)?;
+    let mut before = answered(fetch_figures(rt, socket))?;
     let mut output = io::writer(rt);
     for _ in waits.forever() {
         thread::sleep(waits, Duration::from_secs(1));
-        let figures = figures_of(rt, &fetch(rt, socket)?)?;
-        if is_screen {
-            write!(output, "\x1b[H\x1b[2J")?;
-            write_page(&mut output, &figures, Some(&before))?;
-        } else {
-            write_row(&mut output, &figures, &before)?;
-        }
-        output.flush()?;
+        let figures = answered(fetch_figures(rt, socket))?;
+        printed(write_second(&mut output, &figures, &before, is_screen))?;
         before = figures;
     }
     Ok(())
 }
 
+// The figures of a second: a screen on a terminal, otherwise a line.
+fn write_second<W: Write>(
+    output: &mut W,
+    figures: &Value,
+    before: &Value,
+    is_screen: bool,
+) -> io::Result<()> {
+    if is_screen {
+        write!(output, "\x1b[H\x1b[2J")?;
+        write_page(output, figures, Some(before))?;
+    } else {
+        write_row(output, figures, before)?;
+    }
+    output.flush()
+}
+
 // Has the server store all that it has accepted, and prints the number of the last write of that. However long that takes it waits.
-fn store<R: Wait + Clock>(rt: &HostRuntime, waits: &R, socket: &str) -> io::Result<()> {
+fn store<R: Wait + Clock>(rt: &HostRuntime, waits: &R, socket: &str) -> Result<(), AskFault> {
     for _ in waits.forever() {
-        let (code, body) = exchange(rt, socket, POST_STORE, None)?;
+        let (code, body) = answered(exchange(rt, socket, POST_STORE, None))?;
         if code == CONFLICT {
             thread::sleep(waits, Duration::from_millis(PAUSE));
             continue;
         }
-        let body = expect_ok(code, body)?;
+        let body = answered(expect_ok(code, body))?;
         let mut output = io::writer(rt);
-        write!(output, "stored {body}")?;
-        return output.flush();
+        printed(write!(output, "stored {body}"))?;
+        return printed(output.flush());
     }
     Ok(())
 }
@@ -113,6 +155,10 @@ fn fetch(rt: &HostRuntime, socket: &str) -> io::Result<String> {
     let patience = Some(Duration::from_secs(PATIENCE));
     let (code, body) = exchange(rt, socket, GET_STATUS, patience)?;
     expect_ok(code, body)
+}
+
+fn fetch_figures(rt: &HostRuntime, socket: &str) -> io::Result<Value> {
+    figures_of(rt, &fetch(rt, socket)?)
 }
 
 // The body of a response, where its code says that it is what was asked for.
@@ -241,6 +287,22 @@ fn write_page<W: Write>(output: &mut W, figures: &Value, before: Option<&Value>)
     )?;
     writeln!(
         output,
+        "serves       '{}', {} in layout {}, {}, {} workers, {} in flight, at most {} pending",
+        text(figures, "/export"),
+        Bytes(number(figures, "/size")),
+        number(figures, "/layout"),
+        text(figures, "/cache"),
+        number(figures, "/workers"),
+        number(figures, "/in_flight"),
+        Bytes(number(figures, "/loss_bytes"))
+    )?;
+    writeln!(output, "image        {}", text(figures, "/path"))?;
+    write_trouble(output, figures)?;
+    if is_opening(figures) {
+        return write_opening(output, figures);
+    }
+    writeln!(
+        output,
         "clients      {} connected, {} since the start",
         number(figures, "/clients"),
         number(figures, "/connections")
@@ -248,6 +310,46 @@ fn write_page<W: Write>(output: &mut W, figures: &Value, before: Option<&Value>)
     write_requests(output, figures, before)?;
     write_storage(output, figures)?;
     write_space(output, figures)
+}
+
+// Whether the server still opens its image.
+fn is_opening(figures: &Value) -> bool {
+    text(figures, "/state") == "opening"
+}
+
+// The lines of an opening.
+fn write_opening<W: Write>(output: &mut W, figures: &Value) -> io::Result<()> {
+    writeln!(output, "opening      no client is served yet")?;
+    writeln!(
+        output,
+        "journal      {} scanned, at most {} left",
+        Bytes(number(figures, "/opening_scanned_bytes")),
+        Bytes(number(figures, "/opening_unscanned_bytes"))
+    )?;
+    writeln!(
+        output,
+        "copied       {} into the image, at most {} left",
+        Bytes(number(figures, "/opening_copied_bytes")),
+        Bytes(number(figures, "/opening_uncopied_bytes"))
+    )
+}
+
+// The lines of what is wrong, if something is.
+fn write_trouble<W: Write>(output: &mut W, figures: &Value) -> io::Result<()> {
+    if number(figures, "/failed") > 0 {
+        writeln!(
+            output,
+            "failed       {}: each request gets EIO",
+            text(figures, "/failure")
+        )?;
+    }
+    if number(figures, "/disk_full") > 0 {
+        writeln!(
+            output,
+            "disk full    what is copied waits until space is freed"
+        )?;
+    }
+    Ok(())
 }
 
 // The lines of requests.
@@ -278,24 +380,115 @@ fn write_command<W: Write>(
 ) -> io::Result<()> {
     let count = member(figures, "/requests", command);
     let bytes = member(figures, "/request_bytes", command);
-    let micros = match figures.pointer("/request_duration_microseconds") {
-        Some(latencies) => latencies
-            .get(command)
-            .map_or(0, |latency| number(latency, "/total")),
-        None => 0,
-    };
-    write!(
-        output,
-        "{command:<12} {count}, {}, {} each",
-        Bytes(bytes),
-        Millis(mean(micros, count))
-    )?;
-    if let Some(before) = before {
-        let more = count.saturating_sub(member(before, "/requests", command));
-        let bytes = bytes.saturating_sub(member(before, "/request_bytes", command));
-        write!(output, "; now {more}/s, {}/s", Bytes(bytes))?;
+    write!(output, "{command:<12} {count}, {}", Bytes(bytes))?;
+    match before {
+        Some(before) => {
+            let more = count.saturating_sub(member(before, "/requests", command));
+            let bytes = bytes.saturating_sub(member(before, "/request_bytes", command));
+            let quantiles = Quantiles::of(figures, before, command);
+            writeln!(output, "; now {more}/s, {}/s{quantiles}", Bytes(bytes))
+        }
+        None => {
+            let micros = match latency_of(figures, command) {
+                Some(latency) => number(latency, "/total"),
+                None => 0,
+            };
+            writeln!(output, ", {} each", Millis(mean(micros, count)))
+        }
     }
-    writeln!(output)
+}
+
+// How long requests of a command took.
+fn latency_of<'a>(figures: &'a Value, command: &str) -> Option<&'a Value> {
+    figures
+        .pointer("/request_duration_microseconds")?
+        .get(command)
+}
+
+// How long the requests of a command took that were answered in the last second: at most so many microseconds for the half of them, for 99
+// of 100, and for all. A time beyond the last bound has none.
+#[derive(Clone, Copy)]
+struct Quantiles {
+    count: u64,
+    median: Option<u64>,
+    most: Option<u64>,
+    longest: Option<u64>,
+}
+
+impl Quantiles {
+    fn of(figures: &Value, before: &Value, command: &str) -> Quantiles {
+        let mut counts = [0; BOUNDS.len()];
+        let mut count = 0;
+        if let (Some(now), Some(then)) = (
+            latency_of(figures, command),
+            latency_of(before, command),
+        ) {
+            count = growth(now, then, "/count");
+            for (at, bound) in BOUNDS.iter().enumerate() {
+                if let Some(slot) = counts.get_mut(at) {
+                    *slot = bucket(now, *bound).saturating_sub(bucket(then, *bound));
+                }
+            }
+        }
+        Quantiles {
+            count,
+            median: bound_of(&counts, count.div_ceil(2)),
+            most: bound_of(&counts, count.saturating_mul(99).div_ceil(100)),
+            longest: bound_of(&counts, count),
+        }
+    }
+}
+
+// How many requests fell into the bucket with this bound.
+fn bucket(latency: &Value, bound: u64) -> u64 {
+    let Some(Value::Object(buckets)) = latency.get("buckets") else {
+        return 0;
+    };
+    buckets
+        .iter()
+        .find(|(key, _)| key.parse::<u64>().ok() == Some(bound))
+        .and_then(|(_, count)| count.as_u64())
+        .unwrap_or(0)
+}
+
+// The bound within which so many requests lie; none if they don't lie within the last one.
+fn bound_of(counts: &[u64], wanted: u64) -> Option<u64> {
+    let mut sum = 0u64;
+    for (bound, count) in BOUNDS.iter().zip(counts.iter()) {
+        sum = sum.saturating_add(*count);
+        if sum >= wanted {
+            return Some(*bound);
+        }
+    }
+    None
+}
+
+// A time that isn't passed, in milliseconds.
+#[derive(Clone, Copy)]
+struct AtMost(Option<u64>);
+
+impl Display for AtMost {
+    fn fmt<W: fmt::Write>(&self, f: &mut Formatter<W>) -> fmt::Result {
+        match self.0 {
+            Some(micros) => write!(f, "{}", Millis(micros)),
+            None => f.write_str("over 1 s"),
+        }
+    }
+}
+
+impl Display for Quantiles {
+    fn fmt<W: fmt::Write>(&self, f: &mut Formatter<W>) -> fmt::Result {
+        if self.count == 0 {
+            return Ok(());
+        }
+        write!(
+            f,
+            ", half within {}, 99% {}, all {}",
+            AtMost(self.median),
+            AtMost(self.most),
+            AtMost(self.longest)
+        )
+    }
 }
 
 // The number that an object at this place has under this key; 0 where there is none.
@@ -343,6 +536,7 @@ fn write_storage<W: Write>(output: &mut W, figures: &Value) -> io::Result<()> {
         Millis(number(figures, "/write_delay_microseconds")),
         number(figures, "/refused_allocations")
     )?;
+    write_waits(output, figures)?;
     writeln!(
         output,
         "numbers      {} in the image, {} stored, {} accepted",
@@ -350,6 +544,27 @@ fn write_storage<W: Write>(output: &mut W, figures: &Value) -> io::Result<()> {
         number(figures, "/durable_number"),
         number(figures, "/accepted_number")
     )
+}
+
+// The line of what writes waited for before they were accepted.
+fn write_waits<W: Write>(output: &mut W, figures: &Value) -> io::Result<()> {
+    write!(output, "waits       ")?;
+    let mut comma = "";
+    for (reason, name) in [
+        ("journal", "journal"),
+        ("frames", "frames"),
+        ("loss_bytes", "loss-bytes"),
+        ("loss_seconds", "loss-seconds"),
+    ] {
+        write!(
+            output,
+            "{comma} {name} {} for {}",
+            member(figures, "/waits", reason),
+            Millis(member(figures, "/wait_microseconds", reason))
+        )?;
+        comma = ",";
+    }
+    writeln!(output)
 }
 
 // The lines of journal and frames.
@@ -383,11 +598,14 @@ fn write_space<W: Write>(output: &mut W, figures: &Value) -> io::Result<()> {
 
 // The line of a second where the output is no terminal.
 fn write_row<W: Write>(output: &mut W, figures: &Value, before: &Value) -> io::Result<()> {
+    if is_opening(figures) {
+        return write_opening_row(output, figures);
+    }
     let used = number(figures, "/journal_used_bytes");
     let all = used.saturating_add(number(figures, "/journal_free_bytes"));
     writeln!(
         output,
-        "reads {}/s writes {}/s flushes {}/s errors {}/s pending {} B journal {}% dirty {} durable {}",
+        "reads {}/s writes {}/s flushes {}/s errors {}/s pending {} B journal {}% dirty {} durable {}{}{}{}",
         growth(figures, before, "/requests/read"),
         growth(figures, before, "/requests/write"),
         growth(figures, before, "/requests/flush"),
@@ -395,8 +613,36 @@ fn write_row<W: Write>(output: &mut W, figures: &Value, before: &Value) -> io::R
         number(figures, "/pending_bytes"),
         used.saturating_mul(100).checked_div(all).unwrap_or(0),
         number(figures, "/frames/dirty"),
-        number(figures, "/durable_number")
+        number(figures, "/durable_number"),
+        Named("reads", Quantiles::of(figures, before, "read")),
+        Named("writes", Quantiles::of(figures, before, "write")),
+        Named("flushes", Quantiles::of(figures, before, "flush"))
     )
+}
+
+// The same while the image is opened.
+fn write_opening_row<W: Write>(output: &mut W, figures: &Value) -> io::Result<()> {
+    writeln!(
+        output,
+        "opening: scanned {} B, at most {} B left; copied {} B, at most {} B left",
+        number(figures, "/opening_scanned_bytes"),
+        number(figures, "/opening_unscanned_bytes"),
+        number(figures, "/opening_copied_bytes"),
+        number(figures, "/opening_uncopied_bytes")
+    )
+}
+
+// What is told of a command's requests in the line of a second, if there were any.
+#[derive(Clone, Copy)]
+struct Named(&'static str, Quantiles);
+
+impl Display for Named {
+    fn fmt<W: fmt::Write>(&self, f: &mut Formatter<W>) -> fmt::Result {
+        if self.1.count == 0 {
+            return Ok(());
+        }
+        write!(f, "; {}{}", self.0, self.1)
+    }
 }
 
 fn error_growth(figures: &Value, before: &Value) -> u64 {
