@@ -466,6 +466,9 @@ full_disk() {
     is 'a full disk that gets room: the copy back' 0 "$(quiet nbdcopy "$uri" found)"
     head -c "$HALF" found >found_half
     same 'a full disk that gets room: what was copied' half_a found_half
+    is 'a full disk that gets room: what is told' 'nbdj: d.img: no space left on device: what is copied waits until some is freed; nothing durable is lost|nbdj: d.img: goes on after T s without space' \
+        "$(sed 's/after [0-9.]* s/after T s/' serve_errors | paste -sd '|')"
+    : >serve_errors
     killed 'a full disk that gets room'
     umount "$small"
     rm -f d.img
