@@ -103,6 +103,7 @@ pub(crate) struct CommitQueue<B: ExportName> {
     notes: Notes,
     ghost blocks: { length order.cache.states ≡ B.geometry.blocks },
     ghost noted: { noted_base.number ≡ order.base },
+    ghost bound: { most_pending ≡ B.most_pending },
 }
 
 impl<B: ExportName> Drop for CommitQueue<B> {
@@ -167,12 +168,13 @@ impl<B: ExportName> CommitQueue<B> {
         passes: usize,
         noted_base: u64,
         journal: JournalUse,
+        most_pending: u64,
     ) -> CommitQueue<B>
         requires blocks { length order.cache.states ≡ B.geometry.blocks }
         requires noted { noted_base ≡ order.base }
+        requires bound { most_pending ≡ B.most_pending }
         ensures order { result.order ≡ order }
         ensures noted_base { result.noted_base.number ≡ noted_base }
-        ensures limit { result.most_pending ≡ 18446744073709551615 }
     {
         CommitQueue {
             order,
@@ -189,7 +191,7 @@ impl<B: ExportName> CommitQueue<B> {
             flusher_ended: false,
             cannot_store: false,
             cannot_copy: false,
-            most_pending: u64::MAX,
+            most_pending,
             interval: FlushInterval::endless(),
             throttle: Throttle::new(),
             notes: Notes::new(journal),
@@ -348,15 +350,6 @@ impl<B: ExportName> CommitQueue<B> {
             }
         }
         true
-    }
-
-    /// Has no command accepted from now on that could leave more than `most` bytes pending.
-    pub(crate) fn limit_pending(&mut self, most: u64)
-        ensures noted_base { self.new.noted_base ≡ self.old.noted_base }
-        ensures order { self.new.order ≡ self.old.order }
-        ensures limit { self.new.most_pending ≡ most }
-    {
-        self.most_pending = most;
     }
 
     /// Whether the oldest pending command is older than this, as far as that is known.

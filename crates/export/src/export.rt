@@ -142,7 +142,8 @@ impl<B: ExportName, D: Disk + Drop, H: ReadUnlocked, T: Trust> Drop for Export<B
 
 impl<B: ExportName, D: Disk, H: ReadUnlocked, T: Trust> Export<B, D, H, T> {
     /// An export over a device that was opened, under its name, which is picked where this is called, with `frames` frames for
-    /// blocks, a client's pass for each of `workers` workers, and one for its end. If the board keeps a log it is one of this mode, image and
+    /// blocks, a client's pass for each of `workers` workers, and one for its end. It accepts no write that could leave more than
+    /// `most_pending` bytes of commands pending, its own included: that waits until some are stored. If the board keeps a log it is one of this mode, image and
     /// device. A refusal for memory hands the device back.
     pub fn open(
         alloc: Global,
@@ -150,6 +151,7 @@ impl<B: ExportName, D: Disk, H: ReadUnlocked, T: Trust> Export<B, D, H, T> {
         frames: u32,
         mode: Mode,
         workers: usize,
+        most_pending: u64,
     ) -> Result<(Export<B, D, H, T>, Vec<ClientPass<B>>, LastPass<B>), D>
         requires board { device.blank.board ≡ B.board }
         requires named { device.blank.opening ≡ B.opening }
@@ -159,6 +161,7 @@ impl<B: ExportName, D: Disk, H: ReadUnlocked, T: Trust> Export<B, D, H, T> {
         requires start { B.trusted → LeavesOnly B.start (D.state device.keeper.disk) (λ content. StandsFor content B.image B.opening) }
         requires vouches { (handle : H) → device.second_handle ≡ Some handle → (read : SpanRead) → H.vouches handle read → B.vouches read }
         requires frames { frames ≤ 65536 }
+        requires bound { most_pending ≡ B.most_pending }
         requires log { T.logs → IsLogOf B.opening B.image B.vouches B.trusted mode T.trusted T.mode T.image }
         ensures mode { IfOk result (λ made. made.0.mode ≡ mode) }
         ensures passes { IfOk result (λ made. vec_len made.1 ≡ workers) }
@@ -186,7 +189,12 @@ impl<B: ExportName, D: Disk, H: ReadUnlocked, T: Trust> Export<B, D, H, T> {
                     log,
                     engine: Mutex::new(engine),
                     queue: Mutex::new(CommitQueue::new(
-                        order, frames, workers, noted_base, journal,
+                        order,
+                        frames,
+                        workers,
+                        noted_base,
+                        journal,
+                        most_pending,
                     )),
                     second_handle,
                     buffers: Mutex::new(BufferPool::new(alloc)),

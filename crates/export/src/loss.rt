@@ -12,11 +12,6 @@ use std::sync::Wait;
 use std::time::{Duration, Instant};
 
 impl<B: ExportName, D: Disk, H: ReadUnlocked, T: Trust> Export<B, D, H, T> {
-    /// From now on no write is accepted that could leave more than `most` bytes of commands pending: it waits until some are stored.
-    pub fn limit_loss<R: Wait>(&self, rt: &R, most: u64) {
-        self.queue.lock(rt).limit_pending(most);
-    }
-
     /// Has the flusher store what is pending, and waits, while the oldest pending command is older than this. It doesn't wait after a
     /// device fault, or if memory for storing is refused for long. No contract speaks of it: it costs time alone.
     pub fn wait_while_older<R: Wait + Clock, G: SyncPoints>(

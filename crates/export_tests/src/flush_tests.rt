@@ -149,6 +149,7 @@ fn run<B: ExportName + Send + Sync, D: Disk + Send + Drop, R: Threads + Wait + C
     requires trusted { B.trusted → ⊥ }
     requires vouches { (read : SpanRead) → B.vouches read }
     requires geometry { device.keeper.geometry ≡ B.geometry }
+    requires bound { B.most_pending ≡ 18446744073709551615 }
 {
     let (export, mut passes, last) = Export::<B, D, ()>::open(
         alloc,
@@ -156,6 +157,7 @@ fn run<B: ExportName + Send + Sync, D: Disk + Send + Drop, R: Threads + Wait + C
         FRAMES,
         Mode::Writeback,
         2,
+        u64::MAX,
     ).ok()?;
     let other = passes.pop()?;
     let one = passes.pop()?;

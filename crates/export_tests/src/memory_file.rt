@@ -132,7 +132,6 @@ impl<'a, R: Wait + Clock> ReadUnlocked for HeldHandle<'a, R> {
 
     ghost vouches = { λ handle read. Vouched Seal handle read };
 
-    #[tactic(auto, using(crate::proofs::HandleVouches::gave))]
     fn read_unlocked(
         &self,
         _asked: NotedBase,

@@ -26,6 +26,7 @@ fn tell_and_read<B: ExportName, R: Wait + Clock>(
     requires trusted { B.trusted → ⊥ }
     requires vouches { (read : SpanRead) → B.vouches read }
     requires geometry { device.keeper.geometry ≡ B.geometry }
+    requires bound { B.most_pending ≡ 18446744073709551615 }
 {
     let (export, mut passes, last) = Export::<B, SimDisk, ()>::open(
         alloc,
@@ -33,6 +34,7 @@ fn tell_and_read<B: ExportName, R: Wait + Clock>(
         512,
         Mode::Writeback,
         2,
+        u64::MAX,
     ).ok()?;
     let mut other = passes.pop()?;
     let mut one = passes.pop()?;
@@ -125,6 +127,7 @@ fn ask_beside_a_flusher<B: ExportName + Send + Sync, R: Threads + Wait + Clock +
     requires trusted { B.trusted → ⊥ }
     requires vouches { (read : SpanRead) → B.vouches read }
     requires geometry { device.keeper.geometry ≡ B.geometry }
+    requires bound { B.most_pending ≡ 18446744073709551615 }
 {
     let (export, mut passes, _last) = Export::<B, SimDisk, ()>::open(
         alloc,
@@ -132,6 +135,7 @@ fn ask_beside_a_flusher<B: ExportName + Send + Sync, R: Threads + Wait + Clock +
         512,
         Mode::Writeback,
         2,
+        u64::MAX,
     ).ok()?;
     let other = passes.pop()?;
     let one = passes.pop()?;
@@ -201,6 +205,7 @@ fn share<B: ExportName + Send + Sync, R: Threads + Wait + Clock + Sync>(
     requires trusted { B.trusted → ⊥ }
     requires vouches { (read : SpanRead) → B.vouches read }
     requires geometry { device.keeper.geometry ≡ B.geometry }
+    requires bound { B.most_pending ≡ 18446744073709551615 }
 {
     let (export, passes, last) = Export::<B, SimDisk, ()>::open(
         alloc,
@@ -208,6 +213,7 @@ fn share<B: ExportName + Send + Sync, R: Threads + Wait + Clock + Sync>(
         512,
         Mode::Writeback,
         2,
+        u64::MAX,
     ).ok()?;
     let written = write_by_threads(rt, alloc, &export, passes);
     // Once all have left, all is stored, with nobody waiting for it.

@@ -186,6 +186,7 @@ fn run_over<
     requires trusted { B.trusted → ⊥ }
     requires vouches { (read : SpanRead) → B.vouches read }
     requires geometry { device.keeper.geometry ≡ B.geometry }
+    requires bound { B.most_pending ≡ 18446744073709551615 }
 {
     let (export, passes, _last) = Export::<B, D, H>::open(
         alloc,
@@ -193,6 +194,7 @@ fn run_over<
         512,
         Mode::Writeback,
         2,
+        u64::MAX,
     ).ok()?;
     let turns = Turns {
         asked: AtomicU64::new(0),

@@ -131,6 +131,7 @@ fn run_held<B: ExportName + Send + Sync, R: Threads + Wait + Clock + Sync>(
     requires trusted { B.trusted → ⊥ }
     requires vouches { (read : SpanRead) → B.vouches read }
     requires geometry { device.keeper.geometry ≡ B.geometry }
+    requires bound { B.most_pending ≡ 18446744073709551615 }
 {
     let (export, mut passes, last) = Export::<B, SimDisk, ()>::open(
         alloc,
@@ -138,6 +139,7 @@ fn run_held<B: ExportName + Send + Sync, R: Threads + Wait + Clock + Sync>(
         512,
         Mode::Writeback,
         1,
+        u64::MAX,
     ).ok()?;
     let pass = passes.pop()?;
     let held = AtomicBool::new(false);

@@ -220,6 +220,7 @@ where
     requires log { T.logs → IsLogOf B.opening B.image B.vouches B.trusted options.mode T.trusted T.mode T.image }
     requires offers { offered device.keeper.geometry name.bytes.now (flush_waits options.mode) ≡ B.offer }
     requires several { nat_lt 1 options.in_flight ≡ B.several }
+    requires bound { options.limits.loss_bytes ≡ B.most_pending }
     ensures left { B.trusted → (history : List Change) × LeavesHistory B.start (D.state result.1) B.opening B.image history B.opening }
     ensures stored { OnOk result.0 (B.trusted → (history : List Change) × LeavesHistory B.start (D.state result.1) B.opening B.image history (B.opening + length history)) }
     ensures log { T.logs → (history : List Change) × (roster : RosterState) × KeepsLog T.trusted T.mode B.trusted B.start (D.state result.1) B.opening B.image history roster
@@ -274,6 +275,7 @@ where
     requires start { B.trusted → LeavesOnly B.start (D.state device.keeper.disk) (λ content. StandsFor content B.image B.opening) }
     requires vouches { (handle : H) → device.second_handle ≡ Some handle → (read : SpanRead) → H.vouches handle read → B.vouches read }
     requires geometry { device.keeper.geometry ≡ B.geometry }
+    requires bound { options.now.limits.loss_bytes ≡ B.most_pending }
     requires log { T.logs → IsLogOf B.opening B.image B.vouches B.trusted options.now.mode T.trusted T.mode T.image }
     ensures mode { IfOk result (λ made. made.0.mode ≡ options.now.mode) }
     ensures passes { IfOk result (λ made. vec_len made.1 ≡ options.now.workers * options.now.in_flight + 1) }
@@ -287,6 +289,7 @@ where
         options.frames,
         options.mode,
         options.workers as usize * options.in_flight as usize + 1,
+        options.limits.loss_bytes,
     )
 }
 
@@ -314,7 +317,6 @@ where
     if let Some(limit) = options.limits.pending() {
         export.store_within(rt, limit);
     }
-    export.limit_loss(rt, options.limits.loss_bytes);
     let server = Server {
         rt,
         pool: &pool,

@@ -8,7 +8,7 @@ ghosts-run-B-BoardName g a = record { board = a.device.blank.board; opening = a.
 
 -- the sizes of the device
 abbrev pub ghosts-run-B-ExportName : goal.ghosts-run-B-ExportName
-ghosts-run-B-ExportName g a = record { geometry = a.device.keeper.geometry }
+ghosts-run-B-ExportName g a = record { geometry = a.device.keeper.geometry; most_pending = 18446744073709551615 }
 
 -- an image of as many blocks, and nothing that is trusted
 abbrev pub ghosts-run-B-ImageName : goal.ghosts-run-B-ImageName

@@ -8,7 +8,7 @@ ghosts-ask_beside_a_flusher-B-BoardName g a = record { board = a.device.blank.bo
 
 -- the sizes of the device
 abbrev pub ghosts-ask_beside_a_flusher-B-ExportName : goal.ghosts-ask_beside_a_flusher-B-ExportName
-ghosts-ask_beside_a_flusher-B-ExportName g a = record { geometry = a.device.keeper.geometry }
+ghosts-ask_beside_a_flusher-B-ExportName g a = record { geometry = a.device.keeper.geometry; most_pending = 18446744073709551615 }
 
 -- an image of as many blocks, and nothing that is trusted
 abbrev pub ghosts-ask_beside_a_flusher-B-ImageName : goal.ghosts-ask_beside_a_flusher-B-ImageName

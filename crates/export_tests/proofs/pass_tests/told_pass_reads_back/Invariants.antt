@@ -8,7 +8,7 @@ ghosts-tell_and_read-B-BoardName g a = record { board = a.device.blank.board; op
 
 -- the sizes of the device
 abbrev pub ghosts-tell_and_read-B-ExportName : goal.ghosts-tell_and_read-B-ExportName
-ghosts-tell_and_read-B-ExportName g a = record { geometry = a.device.keeper.geometry }
+ghosts-tell_and_read-B-ExportName g a = record { geometry = a.device.keeper.geometry; most_pending = 18446744073709551615 }
 
 -- an image of as many blocks, and nothing that is trusted
 abbrev pub ghosts-tell_and_read-B-ImageName : goal.ghosts-tell_and_read-B-ImageName

@@ -8,7 +8,7 @@ ghosts-share-B-BoardName g a = record { board = a.device.blank.board; opening = 
 
 -- the sizes of the device
 abbrev pub ghosts-share-B-ExportName : goal.ghosts-share-B-ExportName
-ghosts-share-B-ExportName g a = record { geometry = a.device.keeper.geometry }
+ghosts-share-B-ExportName g a = record { geometry = a.device.keeper.geometry; most_pending = 18446744073709551615 }
 
 -- an image of as many blocks, and nothing that is trusted
 abbrev pub ghosts-share-B-ImageName : goal.ghosts-share-B-ImageName

@@ -8,7 +8,7 @@ ghosts-run_over-B-BoardName g a = record { board = a.device.blank.board; opening
 
 -- the sizes of the device
 abbrev pub ghosts-run_over-B-ExportName : goal.ghosts-run_over-B-ExportName
-ghosts-run_over-B-ExportName g a = record { geometry = a.device.keeper.geometry }
+ghosts-run_over-B-ExportName g a = record { geometry = a.device.keeper.geometry; most_pending = 18446744073709551615 }
 
 -- an image of as many blocks, and nothing that is trusted
 abbrev pub ghosts-run_over-B-ImageName : goal.ghosts-run_over-B-ImageName

@@ -12,9 +12,9 @@ ghosts-serve_over-B-BoardName g a = record { board = a.device.blank.board; openi
 abbrev pub ghosts-serve_over-B-ServerName : goal.ghosts-serve_over-B-ServerName
 ghosts-serve_over-B-ServerName g a = record { offer = offered a.device.keeper.geometry a.name.bytes.now (flush_waits a.options.mode); several = nat_lt 1 a.options.in_flight }
 
--- the sizes of the device
+-- the sizes of the device, and the bound that was asked for
 abbrev pub ghosts-serve_over-B-ExportName : goal.ghosts-serve_over-B-ExportName
-ghosts-serve_over-B-ExportName g a = record { geometry = a.device.keeper.geometry }
+ghosts-serve_over-B-ExportName g a = record { geometry = a.device.keeper.geometry; most_pending = a.options.limits.loss_bytes }
 
 -- the image that was found, what is trusted of the device, and what its second handle vouches for
 abbrev pub ghosts-serve_over-B-ImageName : goal.ghosts-serve_over-B-ImageName
