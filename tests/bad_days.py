@@ -536,7 +536,7 @@ def fill_journal(folder, name):
 
 
 def slow_disk(folder, reads=20000, writes=1000):
-    """The settings of a program whose reads and writes of a file take so many microseconds. (A block is copied with up to three others.)"""
+    """The environment of a program whose reads and writes of a file each take this many microseconds more. (A block is copied with up to three others.)"""
     return preload_settings(folder, "slow_sync", SLOW_READ_US=str(reads), SLOW_WRITE_US=str(writes))
 
 

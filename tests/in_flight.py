@@ -9,6 +9,7 @@ Prints a line for each check that fails, and last 'N passed, M failed'.
 """
 import contextlib
 import os
+import re
 import select
 import signal
 import socket
@@ -240,7 +241,31 @@ def hostile(folder):
         server.goes_on("after a flood", kept=32 * MIB)
 
 
-SCENARIOS = (overtaking, limited, durable, ends, parts, silent, shared, faults, terminated, hostile)
+def in_progress(path):
+    """What `nbdj status` says of requests in progress."""
+    return re.search(r", (\d+) requests in progress\n", checks.run("status", path)[1]).group(1)
+
+
+def told(folder):
+    """How many requests are in progress is a figure, and the most of a connection stand in the log's line of its end."""
+    path = os.path.join(folder, "told.status")
+    with Held(folder, "told", "--in-flight", "16", "--verbose", "--status", path) as server:
+        with server.dirty_client() as client:
+            check("told: no request is in progress", "0", in_progress(path))
+            server.hold()
+            client.sendall(b"".join(request(FLUSH, cookie) for cookie in range(2, 7)) + request(READ, 9, 0, BLOCK))
+            check("told: a READ is answered", reply(9) + block_of(0), take(client, 16 + BLOCK))
+            check("told: five requests are in progress", "5", in_progress(path))
+            server.let_go()
+            check("told: they are answered", [(cookie, 0) for cookie in range(2, 7)], replies_of(client, 5))
+            check("told: none is in progress", "0", in_progress(path))
+            client.sendall(request(DISC, 10))
+            take(client, 1)
+        wanted = f"nbdj: {server.image}: client 1 left after 7 requests, at most 5 in progress, 4096 bytes read and 4096 written\n"
+        check("told: the most are in the log", wanted, server.read_log(5)[-1])
+
+
+SCENARIOS = (overtaking, limited, durable, ends, parts, silent, shared, faults, terminated, hostile, told)
 
 
 def main(words):

@@ -93,7 +93,7 @@ def known_load(client):
 BODIES = 5 * (13 + BLOCK) + 2 * 13
 
 BEFORE = {
-    "clients": 1, "connections": 1, "accepted_number": 7, "durable_number": 0, "base_number": 0, "pending_commands": 7,
+    "clients": 1, "connections": 1, "requests_in_progress": 0, "accepted_number": 7, "durable_number": 0, "base_number": 0, "pending_commands": 7,
     "pending_bytes": BODIES, "groups": 0, "group_commands": 0, "group_bytes": 0, "journal_areas": 2, "journal_areas_in_use": 0,
     "journal_used_bytes": 0, "journal_free_bytes": 2 * 2097152, "checkpoints": 0, "checkpoint_blocks": 0, "delayed_writes": 0,
     "refused_allocations": 0, "frames": {"dirty": 5, "clean": 0, "free": FRAMES - 5},

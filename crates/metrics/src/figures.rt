@@ -126,7 +126,7 @@ pub struct Setup<'a> {
     pub loss_bytes: u64,
 }
 
-/// How far the opening of an image is. Of what is left only a bound is known.
+/// How far the opening of an image has come, and how much is left at most.
 #[derive(Clone, Copy)]
 pub struct OpeningFigures {
     /// Whether it isn't over: no client is served yet.
@@ -156,6 +156,8 @@ pub struct Figures {
     pub clients: u64,
     /// All clients that came since the start.
     pub clients_total: u64,
+    /// Requests that were read and have no answer yet.
+    pub in_progress: u64,
     pub requests: RequestFigures,
     pub pending: PendingFigures,
     /// Groups of commands that were stored together, with the time that storing them took.
@@ -216,4 +218,19 @@ impl RequestFigures {
         write_latency: LatencyFigures::NONE,
         flush_latency: LatencyFigures::NONE,
     };
+
+    /// How many requests there were.
+    pub fn count(&self) -> u64 {
+        [
+            &self.read,
+            &self.write,
+            &self.flush,
+            &self.trim,
+            &self.write_zeroes,
+            &self.block_status,
+            &self.other,
+        ]
+        .iter()
+        .fold(0u64, |sum, command| sum.wrapping_add(command.requests))
+    }
 }

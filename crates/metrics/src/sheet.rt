@@ -96,6 +96,13 @@ pub fn write_figures<S: Sheet>(sheet: &mut S, figures: &Figures) -> Result<(), A
         counter("connections", "Clients that have come."),
         figures.clients_total,
     )?;
+    sheet.figure(
+        gauge(
+            "requests_in_progress",
+            "Requests that were read and have no answer yet.",
+        ),
+        figures.in_progress,
+    )?;
     write_requests(sheet, &figures.requests)?;
     write_pending(sheet, figures)?;
     write_groups(sheet, &figures.groups, &figures.syncs)?;

@@ -25,6 +25,8 @@ pub struct Meter {
     /// How far the opening of the image is.
     pub opening: OpeningTally,
     requests: Vec<RequestTally>,
+    /// Requests that were read.
+    pub begun: Counter,
     pub came: Counter,
     pub left: Counter,
     pub groups: WorkTally,
@@ -69,6 +71,7 @@ impl Meter {
             started: Instant::now(rt).ok(),
             opening: OpeningTally::new(header),
             requests,
+            begun: Counter::new(),
             came: Counter::new(),
             left: Counter::new(),
             groups: WorkTally::new(),
@@ -208,6 +211,8 @@ impl Meter {
             opening: self.opening.figures(rt),
             clients: came.saturating_sub(self.left.get()),
             clients_total: came,
+            // (Those that have their answers were counted before.)
+            in_progress: self.begun.get().saturating_sub(requests.count()),
             requests,
             pending: PendingFigures {
                 commands: export.pending_commands,

@@ -363,6 +363,7 @@ impl<'a, R: Wait + Clock> ServerLog<'a, R> {
         match event {
             Event::Came { .. } => status.meter.came.add(1),
             Event::Left { .. } => status.meter.left.add(1),
+            Event::Begun => status.meter.begun.add(1),
             Event::Served {
                 client,
                 head,
@@ -381,8 +382,18 @@ impl<'a, R: Wait + Clock> ServerLog<'a, R> {
             requests,
             bytes_read,
             bytes_written,
+            most_in_progress,
         } = traffic;
         let way = way_out(end);
+        if most_in_progress > 1 {
+            self.tell(
+                Topic::Left,
+                format_args!(
+                    "client {client} {way} after {requests} requests, at most {most_in_progress} in progress, {bytes_read} bytes read and {bytes_written} written"
+                ),
+            );
+            return;
+        }
         self.tell(
             Topic::Left,
             format_args!(
@@ -480,7 +491,7 @@ impl<'a, 'b, R: Wait + Clock> Watch for ServerWatch<'a, 'b, R> {
                     format_args!("client {client} agreed on {}", agreed(flags)),
                 );
             }
-            Event::Served { .. } => {}
+            Event::Begun | Event::Served { .. } => {}
             Event::Left {
                 client,
                 end,

@@ -303,9 +303,10 @@ fn write_page<W: Write>(output: &mut W, figures: &Value, before: Option<&Value>)
     }
     writeln!(
         output,
-        "clients      {} connected, {} since the start",
+        "clients      {} connected, {} since the start, {} requests in progress",
         number(figures, "/clients"),
-        number(figures, "/connections")
+        number(figures, "/connections"),
+        number(figures, "/requests_in_progress")
     )?;
     write_requests(output, figures, before)?;
     write_storage(output, figures)?;
@@ -405,8 +406,8 @@ fn latency_of<'a>(figures: &'a Value, command: &str) -> Option<&'a Value> {
         .get(command)
 }
 
-// How long the requests of a command took that were answered in the last second: at most so many microseconds for the half of them, for 99
-// of 100, and for all. A time beyond the last bound has none.
+// Within how many microseconds the requests of a command were answered in the last second: half of them, 99 % of them, and all. None for a
+// time beyond the last bound.
 #[derive(Clone, Copy)]
 struct Quantiles {
     count: u64,
@@ -451,7 +452,7 @@ fn bucket(latency: &Value, bound: u64) -> u64 {
         .unwrap_or(0)
 }
 
-// The bound within which so many requests lie; none if they don't lie within the last one.
+// The least bound within which `wanted` requests were answered; None if the last bound is too small for that.
 fn bound_of(counts: &[u64], wanted: u64) -> Option<u64> {
     let mut sum = 0u64;
     for (bound, count) in BOUNDS.iter().zip(counts.iter()) {

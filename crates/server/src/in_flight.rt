@@ -107,6 +107,8 @@ pub(crate) struct InFlight<
     replies: Mutex<Replies<'a, G>>,
     // How many requests wait.
     waiting_count: &'a AtomicU32,
+    // How many passes there are besides the one that the reader begins with.
+    others: usize,
 }
 
 impl<
@@ -141,7 +143,8 @@ impl<
         passes: Vec<SessionPass<B>>,
         waiting_count: &'a AtomicU32,
     ) -> Result<InFlight<'a, B, D, H, T, R, G>, Vec<SessionPass<B>>> {
-        let waiting = match VecDeque::with_capacity(alloc, passes.len()) {
+        let others = passes.len();
+        let waiting = match VecDeque::with_capacity(alloc, others) {
             Ok(waiting) => waiting,
             Err(_) => return Err(passes),
         };
@@ -165,6 +168,7 @@ impl<
                 is_broken: false,
             }),
             waiting_count,
+            others,
         })
     }
 
@@ -287,16 +291,17 @@ impl<
         self.waiting_count.fetch_sub(1, Ordering::SeqCst);
     }
 
-    // A request waits; a pass for the next one, if one is idle.
-    fn push(&self, request: WaitingRequest<B, T>) -> Option<SessionPass<B>> {
+    // A request waits; a pass for the next one, if one is idle, and how many requests are in progress.
+    fn push(&self, request: WaitingRequest<B, T>) -> (Option<SessionPass<B>>, usize) {
         self.waiting_count.fetch_add(1, Ordering::SeqCst);
         let mut requests = self.requests.lock(self.rt);
         // (There is room for a request of each pass.)
         let _ = requests.waiting.push_back(request);
+        let busy = self.others.saturating_sub(requests.idle.len());
         let next = requests.idle.pop();
         drop(requests);
         self.arrived.notify_one();
-        next
+        (next, busy.saturating_add(1))
     }
 
     // Waits for a pass that is idle.
@@ -400,7 +405,9 @@ impl<
     // A request waits: the second thread finishes it, if there is one.
     fn wait_for(&self, request: WaitingRequest<B, T>) {
         if !self.is_alone {
-            self.pass.set(self.shared.push(request));
+            let (next, in_progress) = self.shared.push(request);
+            self.pass.set(next);
+            self.handler.note_in_progress(in_progress);
             return;
         }
         let mut due = Vec::new(self.shared.alloc);

@@ -168,12 +168,21 @@ impl<
         }
     }
 
-    // When a request is begun, where that matters.
+    // When a request is begun, where that matters. That it is in progress is told then.
     pub(crate) fn time(&self) -> Option<Instant> {
         if self.watch.is_timed() || self.loss_age.is_some() {
-            return Instant::now(self.rt).ok();
+            let now = Instant::now(self.rt).ok()?;
+            self.watch.note(Event::Begun);
+            return Some(now);
         }
         None
+    }
+
+    // So many requests are in progress.
+    pub(crate) fn note_in_progress(&self, count: usize) {
+        let mut traffic = self.traffic.get();
+        traffic.most_in_progress = traffic.most_in_progress.max(count);
+        self.traffic.set(traffic);
     }
 
     // Whether a write with this head may wait while another one is pending for too long.

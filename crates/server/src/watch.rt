@@ -14,6 +14,8 @@ pub struct Traffic {
     pub bytes_read: u64,
     /// The bytes that WRITEs brought.
     pub bytes_written: u64,
+    /// The most requests that were in progress at a time, where several may be.
+    pub most_in_progress: usize,
 }
 
 /// What happens in a server. Clients are counted from 1.
@@ -43,6 +45,8 @@ pub enum Event<'a> {
         client: u64,
         flags: SessionFlags,
     },
+    /// A request was read, and is in progress until it is `Served`. It is told only where each request is timed.
+    Begun,
     /// A request has its answer, this long after it was read. It is told only where `Watch::is_timed` holds.
     Served {
         client: u64,

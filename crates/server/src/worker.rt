@@ -380,6 +380,7 @@ impl<
                 requests: 0,
                 bytes_read: 0,
                 bytes_written: 0,
+                most_in_progress: 0,
             }),
             is_replying: Cell::new(false),
             buffer: Cell::new(None),
