@@ -2,7 +2,7 @@
 _nbdj() {
     local word=${COMP_WORDS[COMP_CWORD]} command=${COMP_WORDS[1]}
     if [ "$COMP_CWORD" -eq 1 ] || { [ "$COMP_CWORD" -eq 2 ] && [ "$command" = help ]; }; then
-        mapfile -t COMPREPLY < <(compgen -W 'format serve status pipe recover upgrade check rehearse help --help --version' -- "$word")
+        mapfile -t COMPREPLY < <(compgen -W 'format serve status pipe recover upgrade check rehearse import export help --help --version' -- "$word")
         return
     fi
     case ${COMP_WORDS[COMP_CWORD - 1]} in

@@ -29,11 +29,12 @@ made_until() {
     made "$1" "$(printf '%s\n' "$2" | awk -v kind="${3% *}" -v n="${3#* }" '$1 == kind && ++met == n { print $0 " failed"; exit } { print }')"
 }
 
-# A format writes zeroes over headers, journal and maps, so that they are allocated. It closes both header gates; it writes area 0's first
-# gate, map slot 0 and the header's body; it opens the header's gate.
+# A format writes zeroes over headers, journal and maps, so that they are allocated. It syncs and closes both header gates; it writes
+# area 0's first gate, map slot 0 and the header's body; it opens the header's gate.
 format_calls="$(seq 0 32768 4161536 | sed 's/.*/pwrite & 32768/')
 pwrite 4194304 16384
-"'pwrite 0 1
+"'fdatasync
+pwrite 0 1
 pwrite 4096 1
 fdatasync
 pwrite 8192 1
@@ -46,13 +47,13 @@ fdatasync'
 called '' format d.img --blocks 16 --area 2097152
 is 'a format' "0|$(text 'formatted 4276224')|" "$status|$output|$errors"
 made 'the calls of a format' "$format_calls"
-for fail in 'pwrite 1' 'pwrite 129' 'pwrite 130' 'pwrite 131' 'fdatasync 1' 'pwrite 132' 'pwrite 133' 'pwrite 134' 'fdatasync 2' 'pwrite 135' 'fdatasync 3'; do
+for fail in 'pwrite 1' 'pwrite 129' 'fdatasync 1' 'pwrite 130' 'pwrite 131' 'fdatasync 2' 'pwrite 132' 'pwrite 133' 'pwrite 134' 'fdatasync 3' 'pwrite 135' 'fdatasync 4'; do
     called "$fail" format d.img --blocks 16 --area 2097152
     is "format where $fail fails" '1||nbdj: device fault (1)' "$status|$output|$errors"
     made_until "the calls of a format where $fail fails" "$format_calls" "$fail"
     # Before the last sync the header's gate is already open.
     case $fail in
-    'fdatasync 3') wanted='commands 0' ;;
+    'fdatasync 4') wanted='commands 0' ;;
     *) wanted='nbdj: no header (7)' ;;
     esac
     is "after a format where $fail failed" "$wanted" "$(found)"

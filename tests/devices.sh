@@ -187,7 +187,7 @@ full() {
     name=$1 path=$2
     shift 2
     timeout 20 "$NBDJ" format "$path" -v "$@" <input >output 2>errors
-    is "$name" "1||nbdj: $path: write of 1 bytes at 0: No space left on device (os error 28)|nbdj: device fault (1)" "$?|$(cat output)|$(paste -s -d '|' errors)"
+    is "$name" "1||nbdj: $path: sync: No space left on device (os error 28)|nbdj: device fault (1)" "$?|$(cat output)|$(paste -s -d '|' errors)"
 }
 
 # served IMAGE: what nbdj-server prints until it listens, without numbers that vary; then it is stopped

@@ -1,9 +1,9 @@
 -- What stands on a device while it is formatted.
-use Rattle.std.proofs.Common.{◌≡◌, inl, inr, ℕ, ◌+◌, ◌-◌, ◌/◌, ◌≤◌, ◌⊎◌, ⊎_elim, if◌then◌else◌, List, [], ◌∷◌, length, slice_index, replicate, refl, sym, ◌∙◌, ap, arith}
+use Rattle.std.proofs.Common.{◌≡◌, inl, inr, ℕ, ◌+◌, ◌-◌, ◌/◌, ◌≤◌, ◌⊎◌, ⊎_elim, if◌then◌else◌, List, [], ◌∷◌, length, slice_index, replicate, refl, sym, ◌∙◌, ap, subst, arith}
 use Rattle.std.proofs.lemmas.Bool.{cases_eq, cases_lt}
 use Rattle.std.proofs.lemmas.List.{get_or-replicate, get_or_past, length-replicate}
 use Rattle.alloc_map.specs.Codes.{state_at}
-use Rattle.alloc_map.specs.laws.States.{byte_of_zeroes, map_of_zeroes, own_states, states_of-zeroes}
+use Rattle.alloc_map.specs.Map.{IsMapOf}
 use Rattle.disk_model.specs.Disk.{State, InRange, IsSound, IsSteady, IsSynced, IsWritten, LeavesOnly, MayLeave, MayLeaveTorn}
 use Rattle.disk_model.specs.laws.Moments.{goes_on, weakens}
 use Rattle.header_slots.specs.Slots.{HoldsHeader, HoldsNone, IsBodyWritten, IsOpen}
@@ -11,11 +11,13 @@ use Rattle.image_model.specs.declared.side.Side.{Side}
 use Rattle.image_model.specs.declared.side.Side.TheVariants.{Zero, One}
 use Rattle.header_slots.specs.laws.Frame.{moved_spelling}
 use Rattle.image_model.specs.Geometry.{device_bytes_of, map_bytes_of}
+use Rattle.image_model.specs.declared.command.Kind.{Kind}
 use Rattle.image_model.specs.declared.command.Kind.TheVariants.{Hole}
 use Rattle.image_model.specs.declared.geometry.Geometry.{Geometry}
 use Rattle.regions.specs.Layout.{area_at, map_at, block_at}
-use Rattle.checkpoint.specs.Format.{IsFormatted, LeavesButGates, first_header}
-use Rattle.checkpoint.specs.inner.Format.{AreClosed, IsFresh}
+use Rattle.checkpoint.specs.Format.{AreClosed, IsMade, LeavesButGates, first_header}
+use Rattle.checkpoint.specs.inner.Format.{IsFresh}
+use Rattle.checkpoint.specs.laws.Closed.{closed_left, closed_torn, closed_written}
 use Rattle.device_image.specs.Stands.{StandsFor, holes, is_data, stored_image}
 
 -- a block of an image of holes is a hole
@@ -25,7 +27,7 @@ hole_at blocks block = ⊎_elim
     (λ past. sym (get_or_past (replicate blocks Hole) block Hole (omega (arith, past, length-replicate blocks Hole))))
     (cases_lt block blocks)
 
-holes_stored : (content : List ℕ) (geometry : Geometry) → holes geometry.blocks ≡ stored_image content geometry (replicate geometry.blocks Hole)
+pub holes_stored : (content : List ℕ) (geometry : Geometry) → holes geometry.blocks ≡ stored_image content geometry (replicate geometry.blocks Hole)
 holes_stored content geometry = λ i. record {
   blocks = geometry.blocks;
   byte = λ place. if is_data (hole_at geometry.blocks (place / 4096) i) then slice_index content (block_at geometry 0 + place) else 0;
@@ -33,74 +35,51 @@ holes_stored content geometry = λ i. record {
 }
 
 -- a fresh device with the gate of its header open has its header in force
-fresh_holds : (content : List ℕ) (geometry : Geometry) → length content ≡ device_bytes_of geometry.blocks geometry.area → slice_index content 0 ≡ 1 → slice_index content 4096 ≡ 0 → IsFresh content geometry
+fresh_holds : (content : List ℕ) (geometry : Geometry) (states : List Kind) → length content ≡ device_bytes_of geometry.blocks geometry.area → slice_index content 0 ≡ 1 → slice_index content 4096 ≡ 0 → IsFresh content geometry states
     → HoldsHeader content (length content) (first_header geometry) Zero
-fresh_holds content geometry size zero_open one_closed fresh = record {
+fresh_holds content geometry states size zero_open one_closed fresh = record {
   room = omega (arith, size);
   in_force = record { gate = zero_open; greatest = λ is_open. absurd (omega (arith, one_closed, is_open)) };
   spelled = fresh.spelled;
   whole = size;
 }
 
--- and stands for an image of holes
-fresh_stands : (content : List ℕ) (geometry : Geometry) → length content ≡ device_bytes_of geometry.blocks geometry.area → slice_index content 0 ≡ 1 → slice_index content 4096 ≡ 0 → IsFresh content geometry
-    → StandsFor content (holes geometry.blocks) 0
-fresh_stands content geometry size zero_open one_closed fresh =
-    let zeroes : List ℕ = replicate (map_bytes_of geometry.blocks) 0 in
-    record {
-      header = first_header geometry;
-      slot = Zero;
-      states = replicate geometry.blocks Hole;
-      lists = [] ∷ [];
-      in_force = fresh_holds content geometry size zero_open one_closed fresh;
-      map = record {
-        bytes = zeroes;
-        slot = record {
-          size = length-replicate (map_bytes_of geometry.blocks) 0;
-          same = λ k below. byte_of_zeroes (map_bytes_of geometry.blocks) k ∙ sym (fresh.map k below);
-        };
-        count = length-replicate geometry.blocks Hole;
-        map = own_states geometry.blocks zeroes (replicate geometry.blocks Hole) (map_of_zeroes geometry.blocks geometry.not_too_many) (states_of-zeroes geometry.blocks (map_bytes_of geometry.blocks) zeroes refl);
-      };
-      held = (record { stand = λ is_open. absurd (omega (arith, fresh.gate, is_open)); inside = omega (arith, geometry.areas_not_too_small) }, tt);
-      count = refl;
-      shows = holes_stored content geometry;
-    }
-
-fresh_formatted : (content : List ℕ) (geometry : Geometry) → length content ≡ device_bytes_of geometry.blocks geometry.area → slice_index content 0 ≡ 1 → slice_index content 4096 ≡ 0 → IsFresh content geometry
-    → IsFormatted content geometry
-fresh_formatted content geometry size zero_open one_closed fresh = record {
-  header = fresh_holds content geometry size zero_open one_closed fresh;
-  rest = fresh.rest;
-  stands = fresh_stands content geometry size zero_open one_closed fresh;
+-- the image that map and data hold is that of a content with the same data
+stored_same : (old content : List ℕ) (geometry : Geometry) (states : List Kind) → ((place : ℕ) → block_at geometry 0 ≤ place → slice_index content place ≡ slice_index old place)
+    → stored_image old geometry states ≡ stored_image content geometry states
+stored_same old content geometry states same = λ i. record {
+  blocks = geometry.blocks;
+  byte = λ place. if is_data (state_at states (place / 4096)) then sym (same (block_at geometry 0 + place) (omega arith)) i else 0;
+  kind = λ block. state_at states block;
 }
 
-none_open : (content : List ℕ) → slice_index content 0 ≡ 0 → slice_index content 4096 ≡ 0 → (slot : Side) → ¬ (IsOpen content slot)
-none_open content zero one Zero = λ is_open. omega (arith, zero, is_open)
-none_open content zero one One = λ is_open. omega (arith, one, is_open)
+-- and stands for the image that map and data hold
+fresh_stands : (content : List ℕ) (geometry : Geometry) (states : List Kind) → length content ≡ device_bytes_of geometry.blocks geometry.area → slice_index content 0 ≡ 1 → slice_index content 4096 ≡ 0 → IsFresh content geometry states
+    → StandsFor content (stored_image content geometry states) 0
+fresh_stands content geometry states size zero_open one_closed fresh = record {
+  header = first_header geometry;
+  slot = Zero;
+  states = states;
+  lists = [] ∷ [];
+  in_force = fresh_holds content geometry states size zero_open one_closed fresh;
+  map = fresh.map;
+  held = (record { stand = λ is_open. absurd (omega (arith, fresh.gate, is_open)); inside = omega (arith, geometry.areas_not_too_small) }, tt);
+  count = refl;
+  shows = refl;
+}
 
-pub none_held : (content : List ℕ) → slice_index content 0 ≡ 0 → slice_index content 4096 ≡ 0 → HoldsNone content (length content)
-none_held content zero one = inr (none_open content zero one)
+fresh_made : (content : List ℕ) (geometry : Geometry) (states : List Kind) → length content ≡ device_bytes_of geometry.blocks geometry.area → slice_index content 0 ≡ 1 → slice_index content 4096 ≡ 0 → IsFresh content geometry states
+    → IsMade content geometry (stored_image content geometry states)
+fresh_made content geometry states size zero_open one_closed fresh = record {
+  header = fresh_holds content geometry states size zero_open one_closed fresh;
+  rest = fresh.rest;
+  stands = fresh_stands content geometry states size zero_open one_closed fresh;
+}
 
--- what a crash may leave where the gates are closed
-module _ (state : State) (closed : AreClosed state) where
-  pub closed_left : (content : List ℕ) → MayLeave state content → HoldsNone content (length content)
-  closed_left content left = none_held content (left.same 0 closed.zero_synced ∙ closed.zero_closed) (left.same 4096 closed.one_synced ∙ closed.one_closed)
-
-  module _ (offset count : ℕ) (behind : 1 ≤ offset) (misses : InRange offset count 4096 → ⊥) where
-    pub closed_torn : (content : List ℕ) → MayLeaveTorn state offset count content → HoldsNone content (length content)
-    closed_torn content left = none_held content
-        (left.same 0 closed.zero_synced (λ within. omega (arith, within.0, behind)) ∙ closed.zero_closed)
-        (left.same 4096 closed.one_synced misses ∙ closed.one_closed)
-
-  pub closed_written : (offset : ℕ) (bytes : List ℕ) (after : State) → 1 ≤ offset → (InRange offset (length bytes) 4096 → ⊥) → IsWritten state offset bytes after → AreClosed after
-  closed_written offset bytes after behind misses done = record {
-    zero_closed = done.others 0 (λ within. omega (arith, within.0, behind)) (closed.steady 0) ∙ closed.zero_closed;
-    one_closed = done.others 4096 misses (closed.steady 4096) ∙ closed.one_closed;
-    zero_synced = λ unsynced. ⊎_elim closed.zero_synced (λ within. omega (arith, within.0, behind)) (done.unsynced 0 unsynced);
-    one_synced = λ unsynced. ⊎_elim closed.one_synced misses (done.unsynced 4096 unsynced);
-    steady = λ place loose. closed.steady place (done.loose place loose);
-  }
+-- the same by an earlier content with the same data
+pub made_over : (old mid content : List ℕ) (geometry : Geometry) (states : List Kind) → ((place : ℕ) → block_at geometry 0 ≤ place → slice_index mid place ≡ slice_index old place)
+    → IsMade content geometry (stored_image mid geometry states) → IsMade content geometry (stored_image old geometry states)
+made_over old mid content geometry states same made = subst (IsMade content geometry) (sym (stored_same old mid geometry states same)) made
 
 -- the gates are closed and synced
 module _ (extent : ℕ) (before mid both after : State) (sound : IsSound extent before) (steady : IsSteady before) (zero : IsWritten before 0 (0 ∷ []) mid) (one : IsWritten mid 4096 (0 ∷ []) both) (synced : IsSynced both after) (sound_after : IsSound extent after) where
@@ -136,21 +115,28 @@ module _ (extent : ℕ) (before mid : State) (sound : IsSound extent before) (so
   }
 
 -- the parts of a fresh device that were written one after another
-module _ (geometry : Geometry) (before one two three : State) (steady : IsSteady before) (zeroes : List ℕ) (zeroes_are : zeroes ≡ replicate (map_bytes_of geometry.blocks) 0)
-    (gate : IsWritten before (area_at geometry 0) (0 ∷ []) one) (map : IsWritten one (map_at geometry Zero) zeroes two) (body : IsBodyWritten two Zero (first_header geometry) three) where
+module _ (geometry : Geometry) (before one two three : State) (steady : IsSteady before) (states : List Kind) (bytes : List ℕ) (map_is : IsMapOf bytes states) (count : length states ≡ geometry.blocks)
+    (gate : IsWritten before (area_at geometry 0) (0 ∷ []) one) (map : IsWritten one (map_at geometry Zero) bytes two) (body : IsBodyWritten two Zero (first_header geometry) three) where
   one_steady : IsSteady one
   one_steady place loose = steady place (gate.loose place loose)
 
   two_steady : IsSteady two
   two_steady place loose = one_steady place (map.loose place loose)
 
-  long : length zeroes ≡ map_bytes_of geometry.blocks
-  long = ap length zeroes_are ∙ length-replicate (map_bytes_of geometry.blocks) 0
+  long : length bytes ≡ map_bytes_of geometry.blocks
+  long = map_is.size ∙ ap map_bytes_of count
 
   behind_body : (place : ℕ) → 4096 ≤ place → slice_index three.seen place ≡ slice_index two.seen place
   behind_body place behind = body.written.others place (λ within. omega (arith, within.1, behind, body.body.size)) (two_steady place)
 
-  pub parts_written : IsFresh three.seen geometry
+  -- the data stay
+  pub data_stay : (place : ℕ) → block_at geometry 0 ≤ place → slice_index three.seen place ≡ slice_index before.seen place
+  data_stay place behind =
+      behind_body place (omega (arith, behind))
+      ∙ map.others place (λ within. omega (arith, within.1, behind, long)) (one_steady place)
+      ∙ gate.others place (λ within. omega (arith, within.1, behind)) (steady place)
+
+  pub parts_written : IsFresh three.seen geometry states
   parts_written = record {
     spelled = moved_spelling body.bytes three.seen 0 1 (λ k below.
         let at : 1 + k ≡ 0 + 1 + k = omega arith in
@@ -163,9 +149,15 @@ module _ (geometry : Geometry) (before one two three : State) (steady : IsSteady
     gate = behind_body (area_at geometry 0) (omega arith)
         ∙ map.others (area_at geometry 0) (λ within. omega (arith, within.0, geometry.area_not_too_small)) (one_steady (area_at geometry 0))
         ∙ first_of (gate.written 0 (omega arith));
-    map = λ k below. behind_body (map_at geometry Zero + k) (omega arith)
-        ∙ map.written k (omega (arith, below, long)) (one_steady (map_at geometry Zero + k))
-        ∙ ap (λ (list : List ℕ). slice_index list k) zeroes_are ∙ byte_of_zeroes (map_bytes_of geometry.blocks) k;
+    map = record {
+      bytes = bytes;
+      slot = record {
+        size = long;
+        same = λ k below. sym (behind_body (map_at geometry Zero + k) (omega arith) ∙ map.written k (omega (arith, below, long)) (one_steady (map_at geometry Zero + k)));
+      };
+      count = count;
+      map = map_is;
+    };
   }
     where
       first_of : ((before.loose (area_at geometry 0 + 0) → ⊥) → slice_index one.seen (area_at geometry 0 + 0) ≡ 0) → slice_index one.seen (area_at geometry 0) ≡ 0
@@ -173,27 +165,33 @@ module _ (geometry : Geometry) (before one two three : State) (steady : IsSteady
           ap (slice_index one.seen) (sym at) ∙ read (steady (area_at geometry 0 + 0))
 
 -- a fresh device whose first gate alone has changed
-pub fresh_kept : (old content : List ℕ) (geometry : Geometry) → ((place : ℕ) → 1 ≤ place → slice_index content place ≡ slice_index old place) → IsFresh old geometry → IsFresh content geometry
-fresh_kept old content geometry same fresh = record {
+pub fresh_kept : (old content : List ℕ) (geometry : Geometry) (states : List Kind) → ((place : ℕ) → 1 ≤ place → slice_index content place ≡ slice_index old place) → IsFresh old geometry states → IsFresh content geometry states
+fresh_kept old content geometry states same fresh = record {
   spelled = moved_spelling old content 1 1 (λ k below. sym (same (1 + k) (omega arith))) (first_header geometry) fresh.spelled;
   rest = λ place from below. same place (omega (arith, from)) ∙ fresh.rest place from below;
   gate = same (area_at geometry 0) (omega arith) ∙ fresh.gate;
-  map = λ k below. same (map_at geometry Zero + k) (omega arith) ∙ fresh.map k below;
+  map = record {
+    bytes = fresh.map.bytes;
+    slot = record { size = fresh.map.slot.size; same = λ k below. fresh.map.slot.same k below ∙ sym (same (map_at geometry Zero + k) (omega arith)) };
+    count = fresh.map.count;
+    map = fresh.map.map;
+  };
 }
 
 -- the header's gate is opened on the synced device
-module _ (extent : ℕ) (geometry : Geometry) (before synced : State) (sound : IsSound extent before) (sound_synced : IsSound extent synced) (size : extent ≡ device_bytes_of geometry.blocks geometry.area) (closed : AreClosed before) (fresh : IsFresh before.seen geometry) (good : IsSynced before synced) where
+module _ (extent : ℕ) (geometry : Geometry) (states : List Kind) (before synced : State) (sound : IsSound extent before) (sound_synced : IsSound extent synced) (size : extent ≡ device_bytes_of geometry.blocks geometry.area) (closed : AreClosed before) (fresh : IsFresh before.seen geometry states) (good : IsSynced before synced) where
   stays : (place : ℕ) → slice_index synced.seen place ≡ slice_index before.seen place
   stays place = good.seen.same place (closed.steady place)
 
   -- a crash leaves its byte as it was, or torn in any way
-  pub opened_torn : (content : List ℕ) → MayLeaveTorn synced 0 1 content → HoldsNone content (length content) ⊎ IsFormatted content geometry
+  pub opened_torn : (content : List ℕ) → MayLeaveTorn synced 0 1 content → HoldsNone content (length content) ⊎ IsMade content geometry (stored_image before.seen geometry states)
   opened_torn content left =
       let same : (place : ℕ) → 1 ≤ place → slice_index content place ≡ slice_index before.seen place =
       λ place behind. left.same place (good.synced place) (λ within. omega (arith, within.1, behind)) ∙ stays place in
       let one : slice_index content 4096 ≡ 0 = same 4096 (omega arith) ∙ closed.one_closed in
       ⊎_elim
-      (λ is_open. inr (fresh_formatted content geometry (left.size ∙ sound_synced.size ∙ size) is_open one (fresh_kept before.seen content geometry same fresh)))
+      (λ is_open. inr (made_over before.seen content content geometry states (λ place behind. same place (omega (arith, behind)))
+      (fresh_made content geometry states (left.size ∙ sound_synced.size ∙ size) is_open one (fresh_kept before.seen content geometry states same fresh))))
       (λ shut. inl (inr (none_but content one shut)))
       (cases_eq (slice_index content 0) 1)
     where
@@ -208,11 +206,12 @@ module _ (extent : ℕ) (geometry : Geometry) (before synced : State) (sound : I
     kept : (place : ℕ) → slice_index after.seen place ≡ slice_index written.seen place
     kept place = done.seen.same place (λ loose. sure place (gate.loose place loose))
 
-    pub opened_formatted : IsFormatted after.seen geometry
-    opened_formatted =
+    pub opened_made : IsMade after.seen geometry (stored_image before.seen geometry states)
+    opened_made =
         let same : (place : ℕ) → 1 ≤ place → slice_index after.seen place ≡ slice_index before.seen place =
         λ place behind. kept place ∙ gate.others place (λ within. omega (arith, within.1, behind)) (sure place) ∙ stays place in
-        fresh_formatted after.seen geometry (sound_after.size ∙ size) (kept 0 ∙ gate.written 0 (omega arith) (sure 0)) (same 4096 (omega arith) ∙ closed.one_closed) (fresh_kept before.seen after.seen geometry same fresh)
+        made_over before.seen after.seen after.seen geometry states (λ place behind. same place (omega (arith, behind)))
+        (fresh_made after.seen geometry states (sound_after.size ∙ size) (kept 0 ∙ gate.written 0 (omega arith) (sure 0)) (same 4096 (omega arith) ∙ closed.one_closed) (fresh_kept before.seen after.seen geometry states same fresh))
 
 -- the moments at which the gates of the headers are closed
 pub gates_moments : {extent : ℕ} {before mid both : State} → IsSound extent before → IsSound extent mid → LeavesOnly before mid (MayLeaveTorn before 0 1) → IsWritten before 0 (0 ∷ []) mid
@@ -239,3 +238,8 @@ module _ (before : State) (closed : AreClosed before) (area : ℕ) (behind : 819
         → LeavesOnly two three (MayLeaveTorn two 1 4095) → LeavesOnly before three (λ content. HoldsNone content (length content))
     body_moments {two} bytes first second written third = goes_on (map_moments (length bytes) first second) third
         (closed_torn two (closed_written one one_closed map bytes two (omega (arith, also)) (misses map (length bytes) also) written) 1 4095 (omega arith) (λ within. omega (arith, within.1)))
+
+-- a device that was made an image of a map of holes is formatted
+pub made_of_holes : (old content : List ℕ) (geometry : Geometry) (states : List Kind) → states ≡ replicate geometry.blocks Hole → IsMade content geometry (stored_image old geometry states) → IsMade content geometry (holes geometry.blocks)
+made_of_holes old content geometry states are made =
+    subst (IsMade content geometry) (ap (stored_image old geometry) are ∙ sym (holes_stored old geometry)) made

@@ -5,6 +5,7 @@ mod BaseRead
 mod AreaComesIntoUse
 mod CopyKeepsImage
 mod DeviceWhileFormatted
+mod HeadersClosed
 mod HeaderAfterCrash
 mod MapStored
 mod WriteMapKeepsImage

@@ -1,8 +1,9 @@
 -- What a crash leaves of a device while it is formatted, and what stands on it between the steps.
 use Rattle.std.specs.Prelude.{ℕ, ◌≡◌, ◌≢◌, ◌<◌, ◌≤◌, ◌⊎◌, List, length, slice_index}
-use Rattle.disk_model.specs.Disk.{State}
+use Rattle.disk_model.specs.Disk.{State, IsSteady}
 use Rattle.header_slots.specs.Slots.{HoldsHeader, HoldsNone}
 use Rattle.header_slots.specs.declared.header.Header.{Header}
+use Rattle.image_model.specs.Image.{Image}
 use Rattle.image_model.specs.declared.side.Side.TheVariants.{Zero}
 use Rattle.image_model.specs.laws.Layouts.{areas_some}
 use Rattle.image_model.specs.declared.geometry.Geometry.{Geometry}
@@ -27,12 +28,24 @@ first_header geometry = record {
   first_inside = areas_some geometry.layout;
 }
 
--- A device that was just formatted: its header is in force, in slot 0, with zeroes after it up to the end of the slot, and it
--- stands for an image of holes of that size.
-pub record IsFormatted (content : List ℕ) (geometry : Geometry) : Type 0 where
+-- The gates of both headers are closed, which is stable, and no place is loose.
+pub record AreClosed (state : State) : Type 0 where
+  pub zero_closed : slice_index state.seen 0 ≡ 0
+  pub one_closed : slice_index state.seen 4096 ≡ 0
+  pub zero_synced : state.unsynced 0 → ⊥
+  pub one_synced : state.unsynced 4096 → ⊥
+  pub steady : IsSteady state
+
+-- A device that was just made this image: its header is in force, in slot 0, with zeroes after it up to the end of the slot, and
+-- it stands for the image, of which no command is the last.
+pub record IsMade (content : List ℕ) (geometry : Geometry) (image : Image) : Type 0 where
   pub header : HoldsHeader content (length content) (first_header geometry) Zero
   pub rest : (place : ℕ) → 40 ≤ place → place < 4096 → slice_index content place ≡ 0
-  pub stands : StandsFor content (holes geometry.blocks) 0
+  pub stands : StandsFor content image 0
+
+-- A device that was just formatted: its image is one of holes of that size.
+abbrev pub IsFormatted : List ℕ → Geometry → Type 0
+IsFormatted content geometry = IsMade content geometry (holes geometry.blocks)
 
 -- What a crash leaves while a device is formatted: at first what it might have left before, but for the gates of the
 -- headers; then no header is in force; at last the formatted device.

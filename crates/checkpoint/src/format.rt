@@ -1,16 +1,21 @@
-ghost use Rattle.std.specs.Prelude.{◌≡◌, ◌≤◌, ◌⊎◌, ◌↔◌, length, replicate, IfErr, OnOk};
-ghost use Rattle.checkpoint.specs.Format.{IsFormatted, LeavesButGates, LeavesFormat, first_header};
-ghost use Rattle.checkpoint.specs.inner.Format.{AreClosed, IsFresh};
+ghost use Rattle.std.specs.Prelude.{◌≡◌, ◌≤◌, ◌⊎◌, ◌↔◌, ℕ, List, length, replicate, slice_index, IfErr, OnOk};
+ghost use Rattle.checkpoint.specs.Format.{AreClosed, IsFormatted, IsMade, LeavesButGates, LeavesFormat, first_header};
+ghost use Rattle.checkpoint.specs.inner.Format.{IsFresh};
 ghost use Rattle.checkpoint.specs.Keeper.{faults_by};
 ghost use Rattle.checkpoint.specs.declared.fault.KeeperFault.TheVariants as KeeperFault;
+ghost use Rattle.device_image.specs.Stands.{stored_image};
 ghost use Rattle.disk_model.specs.Disk.{IsAllSynced, IsSteady, LeavesOnly};
 ghost use Rattle.disk_model.specs.Faults.{faults_after};
 ghost use Rattle.header_slots.specs.Slots.{HoldsNone};
-ghost use Rattle.image_model.specs.Geometry.{device_bytes_of, map_bytes_of};
+ghost use Rattle.image_model.specs.Geometry.{device_bytes_of};
+ghost use Rattle.image_model.specs.declared.command.Kind.{Kind};
+ghost use Rattle.image_model.specs.declared.command.Kind.TheVariants as Kind;
 ghost use Rattle.image_model.specs.declared.geometry.Geometry.{Geometry};
+ghost use Rattle.regions.specs.Layout.{block_at};
 
 use crate::fault::KeeperFault;
 use crate::keeper::Keeper;
+use alloc_map::AllocMap;
 use disk_model::{DeviceFault, Disk};
 use header_slots::{Header, close_gate, fill_slot, open_gate};
 use image_model::{Geometry, Side};
@@ -21,8 +26,9 @@ use std::alloc::Global;
 impl<D: Disk> Keeper<D> {
     /// Makes the device an image of holes with an empty journal, and header slot 0 its header.
     ///
-    /// Both header gates are closed and synced first; the header's gate is opened last, when all else is stable. Refusals 0
-    /// (no memory), before its first call of the device, and 1 (device fault).
+    /// It syncs first, because after a failed call a gate may read as closed and not be. Then both header gates are closed and
+    /// synced; the header's gate is opened last, when all else is stable. Refusals 0 (no memory), before its first call of the
+    /// device, and 1 (device fault).
     pub fn format(alloc: Global, disk: &mut D, geometry: Geometry) -> Result<(), KeeperFault>
         requires { D.extent disk.old ≡ device_bytes_of geometry.blocks geometry.area }
         ensures extent { D.extent disk.new ≡ D.extent disk.old }
@@ -32,43 +38,63 @@ impl<D: Disk> Keeper<D> {
         ensures only { IfErr result (λ fault. (fault ≡ KeeperFault.NoMemory) ⊎ (fault ≡ KeeperFault.DeviceFault)) }
         ensures unchanged { IfErr result (λ fault. (fault ≡ KeeperFault.DeviceFault) ⊎ (disk.new ≡ disk.old)) }
 
-        // On an honest device of which no place is loose.
-        ensures synced { D.honest disk.old → IsSteady (D.state disk.old) → OnOk result (IsAllSynced (D.state disk.new)) }
-        ensures formatted { D.honest disk.old → IsSteady (D.state disk.old) → OnOk result (IsFormatted (D.state disk.new).seen geometry) }
-        ensures any_moment { D.honest disk.old → IsSteady (D.state disk.old)
+        // On an honest device.
+        ensures synced { D.honest disk.old → OnOk result (IsAllSynced (D.state disk.new)) }
+        ensures formatted { D.honest disk.old → OnOk result (IsFormatted (D.state disk.new).seen geometry) }
+        ensures any_moment { D.honest disk.old
             → LeavesOnly (D.state disk.old) (D.state disk.new) (LeavesFormat (D.state disk.old) geometry) }
     {
-        let map = vec![in alloc; 0; geometry.map_bytes() as usize]?;
+        let map = AllocMap::new(alloc, geometry.blocks)?;
         write_device(alloc, disk, geometry, &map)?;
         Ok(())
     }
+
+    /// Syncs, so that no byte is unreliable from an earlier failed call, closes the gates of both headers, which makes the device no
+    /// image, and makes that stable. Refusal 1 (device fault).
+    pub fn close_headers(disk: &mut D) -> Result<(), DeviceFault>
+        requires { 8192 ≤ D.extent disk.old }
+        ensures extent { D.extent disk.new ≡ D.extent disk.old }
+        ensures faults { D.faults disk.new ≡ faults_after result (D.faults disk.old) }
+        ensures honest { D.honest disk.new ↔ D.honest disk.old }
+
+        ensures closed { D.honest disk.old → OnOk result (AreClosed (D.state disk.new)) }
+        ensures any_moment { D.honest disk.old → LeavesOnly (D.state disk.old) (D.state disk.new) (LeavesButGates (D.state disk.old)) }
+    {
+        disk.sync()?;
+        close_gates(disk)
+    }
+
+    /// Makes a device whose header gates are closed an image: of the states that the map says, with the bytes of the data region as they
+    /// stand there, an empty journal, and header slot 0 as its header.
+    ///
+    /// The header's gate is opened last, when all else is stable. Refusal 1 (device fault).
+    pub fn open_header_over(
+        alloc: Global,
+        disk: &mut D,
+        geometry: Geometry,
+        map: &AllocMap,
+    ) -> Result<(), DeviceFault>
+        requires size { D.extent disk.old ≡ device_bytes_of geometry.blocks geometry.area }
+        requires blocks { length map.now ≡ geometry.blocks }
+        ensures extent { D.extent disk.new ≡ D.extent disk.old }
+        ensures faults { D.faults disk.new ≡ faults_after result (D.faults disk.old) }
+        ensures honest { D.honest disk.new ↔ D.honest disk.old }
+
+        // On an honest device whose header gates are closed.
+        ensures synced { D.honest disk.old → OnOk result (IsAllSynced (D.state disk.new)) }
+        ensures made { D.honest disk.old → AreClosed (D.state disk.old)
+            → OnOk result (IsMade (D.state disk.new).seen geometry (stored_image (D.state disk.old).seen geometry map.now)) }
+        ensures any_moment { D.honest disk.old → AreClosed (D.state disk.old)
+            → LeavesOnly (D.state disk.old) (D.state disk.new)
+            (λ content. HoldsNone content (length content) ⊎ IsMade content geometry (stored_image (D.state disk.old).seen geometry map.now)) }
+    {
+        write_parts(alloc, disk, geometry, map)?;
+        open_header(disk)
+    }
 }
 
-// Writes a fresh device with these bytes in its map slot, the header's gate last.
-fn write_device<D: Disk>(
-    alloc: Global,
-    disk: &mut D,
-    geometry: Geometry,
-    map: &[u8],
-) -> Result<(), DeviceFault>
-    requires size { D.extent disk.old ≡ device_bytes_of geometry.blocks geometry.area }
-    requires zeroes { map.now ≡ replicate (map_bytes_of geometry.blocks) 0 }
-    ensures extent { D.extent disk.new ≡ D.extent disk.old }
-    ensures faults { D.faults disk.new ≡ faults_after result (D.faults disk.old) }
-    ensures honest { D.honest disk.new ↔ D.honest disk.old }
-
-    ensures synced { D.honest disk.old → IsSteady (D.state disk.old) → OnOk result (IsAllSynced (D.state disk.new)) }
-    ensures formatted { D.honest disk.old → IsSteady (D.state disk.old) → OnOk result (IsFormatted (D.state disk.new).seen geometry) }
-    ensures any_moment { D.honest disk.old → IsSteady (D.state disk.old)
-        → LeavesOnly (D.state disk.old) (D.state disk.new) (LeavesFormat (D.state disk.old) geometry) }
-{
-    close_headers(disk)?;
-    write_parts(alloc, disk, geometry, map)?;
-    open_header(disk)
-}
-
-// Closes the gates of both headers, and makes that stable.
-fn close_headers<D: Disk>(disk: &mut D) -> Result<(), DeviceFault>
+// Closes the gates of both headers and makes that stable.
+fn close_gates<D: Disk>(disk: &mut D) -> Result<(), DeviceFault>
     requires { 8192 ≤ D.extent disk.old }
     ensures extent { D.extent disk.new ≡ D.extent disk.old }
     ensures faults { D.faults disk.new ≡ faults_after result (D.faults disk.old) }
@@ -82,22 +108,46 @@ fn close_headers<D: Disk>(disk: &mut D) -> Result<(), DeviceFault>
     disk.sync()
 }
 
-// Writes the empty journal, the map of holes and the header's body.
+// Writes a fresh device with this map, which is of holes, the header's gate last.
+fn write_device<D: Disk>(
+    alloc: Global,
+    disk: &mut D,
+    geometry: Geometry,
+    map: &AllocMap,
+) -> Result<(), DeviceFault>
+    requires size { D.extent disk.old ≡ device_bytes_of geometry.blocks geometry.area }
+    requires holes { map.now ≡ replicate geometry.blocks Kind.Hole }
+    ensures extent { D.extent disk.new ≡ D.extent disk.old }
+    ensures faults { D.faults disk.new ≡ faults_after result (D.faults disk.old) }
+    ensures honest { D.honest disk.new ↔ D.honest disk.old }
+
+    ensures synced { D.honest disk.old → OnOk result (IsAllSynced (D.state disk.new)) }
+    ensures formatted { D.honest disk.old → OnOk result (IsFormatted (D.state disk.new).seen geometry) }
+    ensures any_moment { D.honest disk.old
+        → LeavesOnly (D.state disk.old) (D.state disk.new) (LeavesFormat (D.state disk.old) geometry) }
+{
+    Keeper::close_headers(disk)?;
+    Keeper::open_header_over(alloc, disk, geometry, map)
+}
+
+// Writes the empty journal, the map and the header's body.
 #[tactic(auto, using(image_model::specs::laws::Layouts::areas_some))]
 fn write_parts<D: Disk>(
     alloc: Global,
     disk: &mut D,
     geometry: Geometry,
-    map: &[u8],
+    map: &AllocMap,
 ) -> Result<(), DeviceFault>
     requires size { D.extent disk.old ≡ device_bytes_of geometry.blocks geometry.area }
-    requires zeroes { map.now ≡ replicate (map_bytes_of geometry.blocks) 0 }
+    requires blocks { length map.now ≡ geometry.blocks }
     ensures extent { D.extent disk.new ≡ D.extent disk.old }
     ensures faults { D.faults disk.new ≡ faults_after result (D.faults disk.old) }
     ensures honest { D.honest disk.new ↔ D.honest disk.old }
 
     ensures closed { D.honest disk.old → AreClosed (D.state disk.old) → OnOk result (AreClosed (D.state disk.new)) }
-    ensures fresh { D.honest disk.old → AreClosed (D.state disk.old) → OnOk result (IsFresh (D.state disk.new).seen geometry) }
+    ensures fresh { D.honest disk.old → AreClosed (D.state disk.old) → OnOk result (IsFresh (D.state disk.new).seen geometry map.now) }
+    ensures stays { D.honest disk.old → AreClosed (D.state disk.old) → OnOk result ((place : ℕ) → block_at geometry 0 ≤ place
+        → slice_index (D.state disk.new).seen place ≡ slice_index (D.state disk.old).seen place) }
     ensures any_moment { D.honest disk.old → AreClosed (D.state disk.old)
         → LeavesOnly (D.state disk.old) (D.state disk.new) (λ content. HoldsNone content (length content)) }
 {
@@ -110,7 +160,7 @@ fn write_parts<D: Disk>(
         1,
     );
     area.close_first(disk)?;
-    disk.write_at(regions.map_from(Side::Zero), map)?;
+    disk.write_at(regions.map_from(Side::Zero), map.bytes())?;
     fill_slot(disk, Side::Zero, &first_header(geometry))
 }
 
@@ -137,13 +187,13 @@ fn open_header<D: Disk>(disk: &mut D) -> Result<(), DeviceFault>
     ensures honest { D.honest disk.new ↔ D.honest disk.old }
 
     ensures synced { D.honest disk.old → OnOk result (IsAllSynced (D.state disk.new)) }
-    ensures opened { D.honest disk.old → AreClosed (D.state disk.old) → (geometry : Geometry)
-        → D.extent disk.old ≡ device_bytes_of geometry.blocks geometry.area → IsFresh (D.state disk.old).seen geometry
-        → OnOk result (IsFormatted (D.state disk.new).seen geometry) }
-    ensures any_moment { D.honest disk.old → AreClosed (D.state disk.old) → (geometry : Geometry)
-        → D.extent disk.old ≡ device_bytes_of geometry.blocks geometry.area → IsFresh (D.state disk.old).seen geometry
+    ensures opened { D.honest disk.old → AreClosed (D.state disk.old) → (geometry : Geometry) (states : List Kind)
+        → D.extent disk.old ≡ device_bytes_of geometry.blocks geometry.area → IsFresh (D.state disk.old).seen geometry states
+        → OnOk result (IsMade (D.state disk.new).seen geometry (stored_image (D.state disk.old).seen geometry states)) }
+    ensures any_moment { D.honest disk.old → AreClosed (D.state disk.old) → (geometry : Geometry) (states : List Kind)
+        → D.extent disk.old ≡ device_bytes_of geometry.blocks geometry.area → IsFresh (D.state disk.old).seen geometry states
         → LeavesOnly (D.state disk.old) (D.state disk.new)
-        (λ content. HoldsNone content (length content) ⊎ IsFormatted content geometry) }
+        (λ content. HoldsNone content (length content) ⊎ IsMade content geometry (stored_image (D.state disk.old).seen geometry states)) }
 {
     disk.sync()?;
     open_gate(disk, Side::Zero)?;

@@ -2,6 +2,7 @@
 //! out step by step, and reads blocks and the map. A report says what a device holds that isn't opened.
 #![tactic(auto)]
 
+mod content;
 mod device_steps;
 mod fault;
 mod format;
@@ -16,6 +17,7 @@ mod simulated;
 mod steps;
 mod upgrade;
 
+pub use content::Content;
 pub use fault::KeeperFault;
 pub use keeper::Keeper;
 pub use laws::refusal_law;

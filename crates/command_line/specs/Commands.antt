@@ -180,6 +180,18 @@ check_app = with_rule (with_rule (with_rule (with_rule (new_app (codes "check"))
 abbrev pub rehearse_app : App
 rehearse_app = with_rule (with_rule (with_rule (new_app (codes "rehearse")) (flag_rule (codes "sweep"))) (flag_rule (codes "faults"))) verbose_rule
 
+-- a word that is no option, beside the device's file
+abbrev pub word_rule : Text → Rule
+word_rule name = record (new_rule name) { value_names = 1; required = true }
+
+abbrev pub import_app : App
+import_app =
+    with_rule (with_rule (with_rule (with_rule (with_rule (with_rule (with_rule (with_rule (new_app (codes "import")) (word_rule (codes "source"))) path_rule) (option_rule (codes "size"))) area_rule)
+    layout_rule) (flag_rule (codes "preallocate"))) (flag_rule (codes "force"))) verbose_rule
+
+abbrev pub export_app : App
+export_app = with_rule (with_rule (with_rule (with_rule (new_app (codes "export")) path_rule) (word_rule (codes "target"))) (flag_rule (codes "force"))) verbose_rule
+
 -- the program without its subcommands: it has a version, as each of them has, wants a subcommand, and prints its help where
 -- no word is given
 abbrev pub bare_app : App
@@ -195,5 +207,5 @@ bare_app =
 -- the whole command line; the modes are the values that `--cache` takes, in `pipe` and in `serve`
 abbrev pub nbdj_app : ValueParser → ValueParser → App
 nbdj_app modes others =
-    with_subcommand (with_subcommand (with_subcommand (with_subcommand (with_subcommand (with_subcommand (with_subcommand (with_subcommand bare_app format_app.top) (serve_app others).top)
-    status_app.top) (pipe_app modes).top) recover_app.top) upgrade_app.top) check_app.top) rehearse_app.top
+    with_subcommand (with_subcommand (with_subcommand (with_subcommand (with_subcommand (with_subcommand (with_subcommand (with_subcommand (with_subcommand (with_subcommand bare_app format_app.top) (serve_app others).top)
+    status_app.top) (pipe_app modes).top) recover_app.top) upgrade_app.top) check_app.top) rehearse_app.top) import_app.top) export_app.top

@@ -18,7 +18,7 @@ use Rattle.front_end.specs.declared.plan.Course.TheVariants.{Once, Sweep, Faults
 use Rattle.front_end.specs.declared.plan.ServedName.{ServedName}
 use Rattle.front_end.specs.declared.plan.StatusForm.{StatusForm}
 use Rattle.front_end.specs.declared.plan.StatusForm.TheVariants.{Lines, Json, Watch, Store}
-use Rattle.front_end.specs.declared.plan.Plan.TheVariants.{Format, Pipe, Serve, Status, Recover, Upgrade, Check, Rehearse, Refuse}
+use Rattle.front_end.specs.declared.plan.Plan.TheVariants.{Format, Import, Export, Pipe, Serve, Status, Recover, Upgrade, Check, Rehearse, Refuse}
 use Rattle.front_end.specs.declared.refusal.Refusal.TheVariants.{AreaSmall}
 use Rattle.front_end.specs.declared.options.Limits.{Limits}
 use Rattle.front_end.specs.declared.options.OnFault.{OnFault}
@@ -69,6 +69,11 @@ abbrev pub SaysBlocks : List Row → ℕ → Type 0
 SaysBlocks rows blocks =
     (IsLeftOut rows (codes "blocks") × IsGivenSize rows (codes "size") (blocks * 4096)) ⊎ (IsLeftOut rows (codes "size") × IsGiven rows (codes "blocks") blocks)
 
+-- the image has as many blocks as --size says in bytes; if that is left out, it isn't said
+abbrev pub SaysWantedBlocks : List Row → Option ℕ → Type 0
+SaysWantedBlocks rows None = IsLeftOut rows (codes "size")
+SaysWantedBlocks rows (Some blocks) = IsGivenSize rows (codes "size") (blocks * 4096)
+
 -- an area of layout 1, or two of layout 2, has this many bytes: what --area says, or 64 MiB where it is left out and --blocks is too
 abbrev pub SaysArea : List Row → ℕ → Type 0
 SaysArea rows area = IsGivenSize rows (codes "area") area ⊎ (IsLeftOut rows (codes "area") × IsLeftOut rows (codes "blocks") × (area ≡ 67108864))
@@ -98,6 +103,10 @@ abbrev pub SaysSmallAreas : List Row → Type 0
 SaysSmallAreas rows =
     (blocks area : ℕ) × SaysBlocks rows blocks × SaysArea rows area × IsGiven rows (codes "layout") 2
     × (1 ≤ blocks) × (blocks ≤ 16777216) × (2097152 ≤ area) × (area % 8192 ≡ 0) × (area < 4194304)
+
+-- the same of an image that is made of a source
+abbrev pub SaysSmallImportAreas : List Row → Type 0
+SaysSmallImportAreas rows = (area : ℕ) × SaysArea rows area × IsGiven rows (codes "layout") 2 × (2097152 ≤ area) × (area % 8192 ≡ 0) × (area < 4194304)
 
 abbrev pub HasPath : List Row → Text → Type 0
 HasPath rows path = first_of (codes "path") rows ≡ Some path
@@ -200,7 +209,14 @@ IsAsked (Some (name, rows)) (Upgrade path) = (name ≡ codes "upgrade") × HasPa
 IsAsked (Some (name, rows)) (Check path is_json is_deep) =
     (name ≡ codes "check") × HasPath rows path.now × SaysFlag rows (codes "json") is_json × SaysFlag rows (codes "deep") is_deep
 IsAsked (Some (name, rows)) (Rehearse course) = (name ≡ codes "rehearse") × SaysScriptRuns rows course
-IsAsked (Some (name, rows)) (Refuse path refusal) = (name ≡ codes "format") × HasPath rows path.now × SaysSmallAreas rows × (refusal ≡ AreaSmall)
+IsAsked (Some (name, rows)) (Refuse path refusal) =
+    (((name ≡ codes "format") × SaysSmallAreas rows) ⊎ ((name ≡ codes "import") × SaysSmallImportAreas rows)) × HasPath rows path.now × (refusal ≡ AreaSmall)
+IsAsked (Some (name, rows)) (Import source path sizes options) =
+    (name ≡ codes "import") × (first_of (codes "source") rows ≡ Some source.now) × HasPath rows path.now × SaysWantedBlocks rows sizes.blocks
+    × SaysArea rows sizes.area × SaysLayout rows sizes.area sizes.layout × SaysFlag rows (codes "preallocate") options.preallocates
+    × SaysFlag rows (codes "force") options.replaces
+IsAsked (Some (name, rows)) (Export path target replaces) =
+    (name ≡ codes "export") × HasPath rows path.now × (first_of (codes "target") rows ≡ Some target.now) × SaysFlag rows (codes "force") replaces
 
 -- the subcommand asks for this plan, to tell of it or not, and to wait for the lock or not
 abbrev pub IsInvocation : Option (Text × List Row) → Invocation → Type 0

@@ -21,7 +21,9 @@ pub fn program<'a>(alloc: Global) -> Result<Command<'a>, AllocError>
     let command = add_subcommand(alloc, command, &RECOVER);
     let command = add_subcommand(alloc, command, &UPGRADE);
     let command = add_subcommand(alloc, command, &CHECK);
-    add_subcommand(alloc, command, &REHEARSE)
+    let command = add_subcommand(alloc, command, &REHEARSE);
+    let command = add_subcommand(alloc, command, &IMPORT);
+    add_subcommand(alloc, command, &EXPORT)
 }
 
 // The command with a subcommand, where there is memory for it.
@@ -274,6 +276,22 @@ const DEEP: ArgumentRow<'static> = ArgumentRow {
     help: "Prints each group of the journal too: where it stands, and the numbers of its writes",
 };
 
+const LAYOUT_FORM: Form<'static> = Form::Value("L", ValueParser::Unsigned(1, 2));
+
+const PREALLOCATE: ArgumentRow<'static> = ArgumentRow {
+    name: "preallocate",
+    form: Form::Flag,
+    tie: Tie::None,
+    help: "Allocates every block by writing zeroes, so that a full disk can't stop the server later",
+};
+
+const FORCE: ArgumentRow<'static> = ArgumentRow {
+    name: "force",
+    form: Form::Flag,
+    tie: Tie::None,
+    help: "Replaces a file that isn't empty, or data on a block device",
+};
+
 // There are two ways to say how large an image is.
 pub static FORMAT: SubcommandRow<'static> = SubcommandRow {
     name: "format",
@@ -304,16 +322,11 @@ pub static FORMAT: SubcommandRow<'static> = SubcommandRow {
         },
         ArgumentRow {
             name: "layout",
-            form: Form::Value("L", ValueParser::Unsigned(1, 2)),
+            form: LAYOUT_FORM,
             tie: Tie::None,
             help: "1 for two journal areas, 2 for four of half the size, which needs an --area of 4M or more; without it --size makes layout 2 if it can, and --blocks layout 1",
         },
-        ArgumentRow {
-            name: "preallocate",
-            form: Form::Flag,
-            tie: Tie::None,
-            help: "Allocates every block by writing zeroes, so that a full disk can't stop the server later",
-        },
+        PREALLOCATE,
         ArgumentRow {
             name: "force",
             form: Form::Flag,
@@ -551,6 +564,61 @@ static REHEARSE: SubcommandRow<'static> = SubcommandRow {
             tie: Tie::None,
             help: "Repeats the script with a fault at each device call, then a crash, and compares in the same way",
         },
+        VERBOSE,
+    ],
+};
+
+pub static IMPORT: SubcommandRow<'static> = SubcommandRow {
+    name: "import",
+    about: "Makes an image with the contents of a raw file, a block device, another image, or standard input",
+    after_help: "Example: nbdj import disk.raw d.img\n\nAn image as SOURCE is known by its header, and is read with its journal; it isn't changed. Blocks that are all zero become holes. A kill or a power cut before the end leaves what the file held, or a file that doesn't open.\n\nExit status: 0 done; 1 a fault of file, device, stream or memory, data that --force would replace, a source larger than --size, or an area below 4M for layout 2; 2 a refused command line; 3 a source that is a bad image; 4 a file or a device in use.",
+    usage: None,
+    arguments: &[
+        ArgumentRow {
+            name: "source",
+            form: Form::Word("SOURCE"),
+            tie: Tie::None,
+            help: "The raw file, block device or image with the contents, or - for standard input, which needs --size",
+        },
+        PATH,
+        ArgumentRow {
+            name: "size",
+            form: Form::Text("SIZE"),
+            tie: Tie::None,
+            help: "Size of the image, in whole blocks of 4096 bytes: 4K to 64G, as 65536, 64K, 512M or 10G; not smaller than the source, whose size it is if left out",
+        },
+        ArgumentRow {
+            name: "area",
+            form: Form::Text("BYTES"),
+            tie: Tie::None,
+            help: "Size of a journal area (layout 1) or of two (layout 2): a multiple of 8192, 2M to 1G; 64M if left out",
+        },
+        ArgumentRow {
+            name: "layout",
+            form: LAYOUT_FORM,
+            tie: Tie::None,
+            help: "1 for two journal areas, 2 for four of half the size, which needs an --area of 4M or more; 2 if left out and the area is large enough",
+        },
+        PREALLOCATE,
+        FORCE,
+        VERBOSE,
+    ],
+};
+
+static EXPORT: SubcommandRow<'static> = SubcommandRow {
+    name: "export",
+    about: "Writes the contents of the image, its journal included, to a raw file, a block device, or standard output",
+    after_help: "Example: nbdj export d.img disk.raw\n\nThe image is locked and not changed: its journal stays as it is. In a file the holes of the image are holes. A kill or a power cut leaves a part of the contents at TARGET.\n\nExit status: 0 done; 1 a fault of file, device, stream or memory, or data that --force would replace; 2 a refused command line; 3 the image is bad; 4 a file or a device in use.",
+    usage: None,
+    arguments: &[
+        PATH,
+        ArgumentRow {
+            name: "target",
+            form: Form::Word("TARGET"),
+            tie: Tie::None,
+            help: "The raw file or block device that the contents are written to, or - for standard output",
+        },
+        FORCE,
         VERBOSE,
     ],
 };

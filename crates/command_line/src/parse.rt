@@ -2,21 +2,21 @@ ghost use Rattle.std.specs.Prelude.{◌≡◌, ◌≢◌, ◌≤◌, ◌<◌, �
 ghost use Rattle.clap.specs.Words.{first_of, found_of, rows_of, subcommand_of};
 ghost use Rattle.clap.specs.declared.builder.value_parser.ValueParser.{ValueParser};
 ghost use Rattle.command_line.specs.Commands.{nbdj_app};
-ghost use Rattle.command_line.specs.Line.{fault_name, layout_number, mode_name, HasPath, IsAsked, IsInvocation, IsGiven, IsGivenSeconds, IsGivenSize, SaysArea, SaysBlocks, SaysLayout, SaysReplaces, SaysScriptRuns, SaysFlag, SaysLimits, SaysName, SaysOnFull, SaysStatusForm, SaysStatusSocket, SaysUnixMode, full_name, SaysAddresses, values_given};
+ghost use Rattle.command_line.specs.Line.{fault_name, layout_number, mode_name, HasPath, IsAsked, IsInvocation, IsGiven, IsGivenSeconds, IsGivenSize, SaysArea, SaysBlocks, SaysLayout, SaysReplaces, SaysScriptRuns, SaysFlag, SaysLimits, SaysName, SaysOnFull, SaysStatusForm, SaysStatusSocket, SaysUnixMode, SaysWantedBlocks, full_name, SaysAddresses, values_given};
 ghost use Rattle.command_line.specs.Size.{IsSize};
 ghost use Rattle.front_end.specs.declared.plan.Address.TheVariants.{Tcp, Unix};
 ghost use Rattle.image_model.specs.declared.layout.Layout.TheVariants as Layout;
 
-use crate::commands::{FORMAT, SERVE, program, subcommand};
+use crate::commands::{FORMAT, IMPORT, SERVE, program, subcommand};
 use crate::seconds::millis_of;
 use crate::size::bytes_of;
 use clap::error::ErrorKind;
 use clap::{ArgMatches, Command, Error};
 use export_model::Mode;
 use front_end::{
-    Address, Course, FormatOptions, Invocation, LEAST_LOSS_BYTES, Limits, MOST_LOSS_BYTES,
-    MOST_NAME_BYTES, OnFault, OnFull, PipeOptions, Plan, Refusal, ServeOptions, ServedName,
-    StatusForm, WhenFull,
+    Address, Course, FormatOptions, ImportSizes, Invocation, LEAST_LOSS_BYTES, Limits,
+    MOST_LOSS_BYTES, MOST_NAME_BYTES, OnFault, OnFull, PipeOptions, Plan, Refusal, ServeOptions,
+    ServedName, StatusForm, WhenFull,
 };
 use image_model::{BLOCK_BYTES, Geometry, LEAST_AREA_BYTES, Layout, MOST_AREA_BYTES, MOST_BLOCKS};
 use std::alloc::{AllocError, Global};
@@ -89,6 +89,12 @@ fn asked<'a>(alloc: Global, name: &str, matches: &ArgMatches<'a>) -> Result<Plan
         "rehearse" => Ok(Plan::Rehearse {
             course: course(alloc, matches)?,
         }),
+        "import" => import(alloc, matches),
+        "export" => Ok(Plan::Export {
+            path: path(alloc, matches)?,
+            target: word(alloc, matches, "target")?,
+            replaces: flag(matches, "force"),
+        }),
         _ => Err(fault(alloc, "no such command")),
     }
 }
@@ -117,6 +123,53 @@ fn format<'a>(alloc: Global, matches: &ArgMatches<'a>) -> Result<Plan<'a>, Error
             path,
             refusal: Refusal::AreaSmall,
         }),
+    }
+}
+
+fn import<'a>(alloc: Global, matches: &ArgMatches<'a>) -> Result<Plan<'a>, Error>
+    ensures { IfOk result (IsAsked (Some (codes "import", rows_of (found_of matches.now)))) }
+{
+    let source = word(alloc, matches, "source")?;
+    let image = path(alloc, matches)?;
+    let blocks = wanted_blocks(alloc, matches)?;
+    if source == "-" && blocks.is_none() {
+        return Err(import_fault(alloc, "--size: it is wanted with standard input"));
+    }
+    let bytes = area(alloc, matches)?;
+    let options = FormatOptions {
+        preallocates: flag(matches, "preallocate"),
+        replaces: flag(matches, "force"),
+    };
+    let Some(geometry) = Geometry::new(1, bytes) else {
+        return Err(import_fault(alloc, "--area: the bytes of an area are a multiple of 8192"));
+    };
+    let refusal = Refusal::AreaSmall;
+    let refused = Plan::Refuse {
+        path: image,
+        refusal,
+    };
+    match with_layout(alloc, matches, geometry)? {
+        Some(geometry) => Ok(Plan::Import {
+            source,
+            path: image,
+            sizes: ImportSizes {
+                blocks,
+                area: bytes,
+                layout: geometry.layout,
+            },
+            options,
+        }),
+        None => Ok(refused),
+    }
+}
+
+// The blocks of an image whose source may say how many there are.
+fn wanted_blocks(alloc: Global, matches: &ArgMatches<'_>) -> Result<Option<u64>, Error>
+    ensures { IfOk result (SaysWantedBlocks (rows_of (found_of matches.now))) }
+{
+    match text(matches, "size") {
+        None => Ok(None),
+        Some(size) => Ok(Some(whole_blocks(alloc, size)?)),
     }
 }
 
@@ -625,6 +678,16 @@ fn path<'a>(alloc: Global, matches: &ArgMatches<'a>) -> Result<&'a str, Error>
     }
 }
 
+// The text of another word that is wanted.
+fn word<'a>(alloc: Global, matches: &ArgMatches<'a>, name: &str) -> Result<&'a str, Error>
+    ensures { IfOk result (λ word. first_of name.now (rows_of (found_of matches.now)) ≡ Some word.now) }
+{
+    match text(matches, name) {
+        Some(word) => Ok(word),
+        None => Err(fault(alloc, "a word is missing")),
+    }
+}
+
 // The text that an argument was given.
 fn text<'a>(matches: &ArgMatches<'a>, name: &str) -> Option<&'a str>
     ensures { first_of name.now (rows_of (found_of matches.now)) ≡ option_map (λ text. text.now) result }
@@ -666,6 +729,11 @@ fn flag(matches: &ArgMatches<'_>, name: &str) -> bool
 // A fault of what the words of `format` mean, told as one of the words themselves.
 fn format_fault(alloc: Global, message: &str) -> Error {
     fault_of(subcommand(alloc, &FORMAT), message)
+}
+
+// The like of `import`.
+fn import_fault(alloc: Global, message: &str) -> Error {
+    fault_of(subcommand(alloc, &IMPORT), message)
 }
 
 // The like of `serve`.

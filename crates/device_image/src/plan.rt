@@ -1,14 +1,15 @@
-ghost use Rattle.std.specs.Prelude.{◌≡◌, ℕ, ◌+◌, ◌-◌, ◌≤◌, List, length, is_some, IfNone, IfOk, IfSome, None, Some};
+ghost use Rattle.std.specs.Prelude.{◌≡◌, ℕ, ◌+◌, ◌-◌, ◌^◌, ◌<◌, ◌≤◌, List, length, is_some, IfNone, IfOk, IfSome, None, Some};
 ghost use Rattle.device_image.specs.Plan.{IsNextCopy};
 ghost use Rattle.device_image.specs.inner.Plan.{kind_given};
 ghost use Rattle.device_image.specs.Keeper.{AreStatesAfter, IsPlanOf};
-ghost use Rattle.journal_format.specs.Touches.{AreWithin};
+ghost use Rattle.journal_format.specs.Touches.{AreWithin, last_touch};
 ghost use Rattle.journal_format.specs.declared.touch.TouchedRange.{TouchedRange};
 ghost use Rattle.latest_writes.specs.Ranges.{AreLastTouches};
 
 use alloc_map::AllocMap;
 use image_model::Kind;
 use journal::Area;
+use journal_format::Touch;
 use latest_writes::{LastTouch, LastTouches, PutRange};
 use std::alloc::{AllocError, Global};
 use std::marker::Model;
@@ -136,6 +137,17 @@ impl CopyPlan {
         ensures { result ≡ self.now.first.next }
     {
         self.next
+    }
+
+    /// The last touch of a block by the area.
+    pub fn touch_of(&self, block: u32) -> Option<Touch>
+        ensures { block < self.now.first.blocks → self.now.first.from + self.now.first.bytes < 2 ^ 64
+            → result ≡ last_touch block self.now.first.touched }
+    {
+        match self.touches.touch_of(block)? {
+            LastTouch::Put(place) => Some(Touch::Put(self.start.saturating_add(place as u64))),
+            LastTouch::Clear(kind) => Some(Touch::Clear(kind)),
+        }
     }
 
     /// Whether the map is written.

@@ -3,7 +3,7 @@ use Rattle.std.specs.Prelude.{◌≡◌, ℕ, ◌*◌, ◌<◌, Option, Some, No
 use Rattle.std.specs.Duration.{as_nanos}
 use Rattle.std.specs.declared.time.Duration.{Duration}
 
--- This many units of so many nanoseconds; 0 is no limit.
+-- The time is count * unit nanoseconds; a count of 0 means that there is no limit.
 abbrev pub IsLimit : ℕ → ℕ → Option Duration → Type 0
 IsLimit count unit None = count ≡ 0
 IsLimit count unit (Some time) = (0 < count) × (as_nanos time ≡ count * unit)

@@ -12,7 +12,7 @@ mod refusal;
 /// The version of the program.
 pub const VERSION: &str = "1.3.10";
 
-pub use format_options::FormatOptions;
+pub use format_options::{FormatOptions, ImportSizes};
 pub use limits::{LEAST_FRAMES, LEAST_LOSS_BYTES, MOST_FRAMES, MOST_LOSS_BYTES};
 pub use options::{Limits, MOST_IN_FLIGHT, MOST_WORKERS, OnFault, OnFull, ServeOptions, WhenFull};
 pub use pipe_options::PipeOptions;

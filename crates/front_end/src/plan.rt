@@ -1,4 +1,4 @@
-use crate::format_options::FormatOptions;
+use crate::format_options::{FormatOptions, ImportSizes};
 use crate::options::{OnFull, ServeOptions};
 use crate::pipe_options::PipeOptions;
 use crate::refusal::Refusal;
@@ -67,6 +67,20 @@ pub enum Plan<'a> {
         path: &'a str,
         geometry: Geometry,
         options: FormatOptions,
+    },
+    /// Makes the device an image with the contents of a source: of another path, or of standard input, if that is `-`.
+    Import {
+        source: &'a str,
+        path: &'a str,
+        sizes: ImportSizes,
+        options: FormatOptions,
+    },
+    /// Gives the contents of the device's image to a target: to another path, or to standard output, if that is `-`.
+    Export {
+        path: &'a str,
+        target: &'a str,
+        /// Whether data that are there may be lost.
+        replaces: bool,
     },
     /// Serves one connection over standard input and output.
     Pipe {

@@ -1,6 +1,7 @@
 //! What a file or a block device holds before an image is made there.
 
 use crate::files::header_of;
+use header_slots::SLOT_BYTES;
 use std::fmt::{self, Display, Formatter};
 use std::fs::File;
 use std::os::unix::fs::FileExt;
@@ -121,6 +122,20 @@ static SIGNATURES: [Signature; 15] = [
         name: "a partition table",
     },
 ];
+
+// What begins the header of an image, after its gate; the last byte is the layout.
+const MAGIC: &[u8; 7] = b"NBDJRNL";
+
+/// Whether one of the header slots of a file has an image's magic, whether the header is in force or not.
+pub fn has_magic(file: &File) -> bool {
+    let mut found = [0; 7];
+    for slot in [0, SLOT_BYTES] {
+        if file.read_exact_at(&mut found, slot + 1).is_ok() && found == *MAGIC {
+            return true;
+        }
+    }
+    false
+}
 
 /// What is known of the bytes of a block device.
 pub(crate) fn content_of(device: File) -> (File, Option<Content>) {

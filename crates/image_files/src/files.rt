@@ -10,7 +10,7 @@ use header_slots::{Header, SLOT_BYTES, read_current};
 use std::alloc::AllocError;
 use std::fs::{self, File, Metadata, OpenFile, OpenOptions, TryLockError};
 use std::io::{self, ErrorKind, Seek, SeekFrom};
-use std::os::unix::fs::{FileExt, FileTypeExt, OpenOptionsExt};
+use std::os::unix::fs::{FileExt, FileTypeExt, MetadataExt, OpenOptionsExt};
 use std::path::Path;
 
 /// Why a device's file isn't there to work on.
@@ -311,6 +311,14 @@ pub fn remove_made(rt: &HostRuntime, path: &str) {
     // A file that can't be removed stays, empty.
     if let Ok(made) = Path::new(path).canonicalize(rt) {
         let _ = fs::remove_file(rt, made.as_str());
+    }
+}
+
+/// Whether two paths name one file.
+pub fn is_same_file(rt: &HostRuntime, one: &str, other: &str) -> bool {
+    match (fs::metadata(rt, one), fs::metadata(rt, other)) {
+        (Ok(one), Ok(other)) => one.dev() == other.dev() && one.ino() == other.ino(),
+        _ => false,
     }
 }
 

@@ -11,9 +11,9 @@ use std::os::unix::fs::{FileExt, MetadataExt};
 // The unit in which the system tells how much of a file is allocated.
 const SECTOR_BYTES: u64 = 512;
 
-/// A file that is emptied, gets its full length, and has its first bytes allocated, all stable, before the first byte of it is written.
-/// A caller that gives up before that has lost nothing of what the file held. A block device is written as it is; if all of it is
-/// to be allocated, it is filled with zeroes.
+/// A file that is emptied, gets its full length, and has its first bytes allocated, all stable, at the first write or sync of its data. A
+/// caller that gives up before that has lost nothing of what the file held. For the disk model the file is empty from the start, and
+/// this isn't stable before that sync. A block device is written as it is; if all of it is to be allocated, it is filled with zeroes.
 #[derive(Drop)]
 pub struct FreshFile {
     rt: HostRuntime,
@@ -53,7 +53,13 @@ impl FreshFile {
         self.is_new
     }
 
-    fn make_ready(&self) -> io::Result<()> {
+    /// Whether it is a file, all of which reads as zero until it is written.
+    pub(crate) fn reads_as_zero(&self) -> bool {
+        self.place == Place::File
+    }
+
+    /// Empties it, and gives it its full length, if it wasn't written yet.
+    pub(crate) fn make_ready(&self) -> io::Result<()> {
         if !self.is_ready.get() {
             match self.place {
                 Place::File => self.make_file_ready()?,
@@ -134,6 +140,7 @@ impl OpenFile for FreshFile {
     }
 
     fn sync_data(&self) -> io::Result<()> {
+        self.make_ready()?;
         OpenFile::sync_data(&self.file)
     }
 }

@@ -11,7 +11,7 @@ const BAR_GAP: u64 = 100;
 // Milliseconds from one line to the next.
 const LINE_GAP: u64 = 5_000;
 
-// Milliseconds within which a copy is short.
+// Milliseconds within which a copy or a transfer is short.
 const SHORT: u64 = 1_000;
 
 // The characters of the bar.
@@ -24,6 +24,8 @@ pub(crate) enum Work {
     Fill,
     /// It copies some of them.
     Copy,
+    /// It reads them all, and writes those that aren't zero.
+    Transfer,
 }
 
 /// Tells on standard error how far a long work is: on a terminal by a bar, elsewhere by a line every five seconds.
@@ -78,11 +80,11 @@ impl Progress {
         }
     }
 
-    // The milliseconds from one look or line to the next. Of a copy that takes less than a second no bar is shown.
+    // The milliseconds from one look or line to the next. Of a copy or a transfer that takes less than a second no bar is shown.
     fn gap(&self) -> u64 {
         match self.work {
             _ if !self.is_terminal => LINE_GAP,
-            Work::Copy if !self.is_told() => SHORT,
+            Work::Copy | Work::Transfer if !self.is_told() => SHORT,
             _ => BAR_GAP,
         }
     }
@@ -139,13 +141,14 @@ impl Display for State {
         match work {
             Work::Fill => write!(f, "{done} of {count} MiB written, {rate} MiB/s")?,
             Work::Copy => write!(f, "{done} of at most {count} MiB copied, {rate} MiB/s")?,
+            Work::Transfer => write!(f, "{done} of {count} MiB copied, {rate} MiB/s")?,
         }
         match millis
             .saturating_mul(count.saturating_sub(*done))
             .checked_div(*done)
         {
             Some(left) => match work {
-                Work::Fill => write!(f, ", {} s left", left.div_ceil(1_000)),
+                Work::Fill | Work::Transfer => write!(f, ", {} s left", left.div_ceil(1_000)),
                 Work::Copy => write!(f, ", at most {} s left", left.div_ceil(1_000)),
             },
             None => Ok(()),

@@ -3,3 +3,4 @@ mod RangesGrow
 mod Halves
 mod BlocksToCopy
 mod NextPut
+mod RangeOfBlock

@@ -25,14 +25,14 @@ pub record IsFound (from : ℕ) (ranges : List LastRange) (put : PutRange) : Typ
   pub longest : touch_at (put.first + put.blocks) ranges ≡ Some (Put (put.place + 4096 * put.blocks)) → ⊥
 
 -- elements of a list with one more in front
-All-cons : {X : Type 0} (P : X → Type 0) (x : X) (xs : List X) → P x → All P xs → All P (x ∷ xs)
+pub All-cons : {X : Type 0} (P : X → Type 0) (x : X) (xs : List X) → P x → All P xs → All P (x ∷ xs)
 All-cons P x xs first rest zero d below = first
 All-cons P x xs first rest (suc k) d below = rest k d (omega (arith, below))
 
 All-tail : {X : Type 0} (P : X → Type 0) (x : X) (xs : List X) → All P (x ∷ xs) → All P xs
 All-tail P x xs all k d below = all (suc k) d (omega (arith, below))
 
-All-weaker : {X : Type 0} (P Q : X → Type 0) (xs : List X) → ((x : X) → P x → Q x) → All P xs → All Q xs
+pub All-weaker : {X : Type 0} (P Q : X → Type 0) (xs : List X) → ((x : X) → P x → Q x) → All P xs → All Q xs
 All-weaker P Q xs step all k d below = step (get_or xs k d) (all k d below)
 
 found_behind : (from to : ℕ) (range : LastRange) (ranges : List LastRange) (put : PutRange) → AreRanges from to (range ∷ ranges) → IsFound (range.first + range.blocks) ranges put → IsFound from (range ∷ ranges) put
@@ -103,7 +103,7 @@ pub record AreAscending (puts : List PutRange) : Type 0 where
   pub ends : IsNonDecreasingBy (λ put. put.first + put.blocks) puts
   pub firsts : IsNonDecreasingBy (λ put. put.first) puts
 
-NonDecreasing-cons : {X : Type 0} (n : X → ℕ) (x : X) (xs : List X) → All (λ y. n x ≤ n y) xs → IsNonDecreasingBy n xs → IsNonDecreasingBy n (x ∷ xs)
+pub NonDecreasing-cons : {X : Type 0} (n : X → ℕ) (x : X) (xs : List X) → All (λ y. n x ≤ n y) xs → IsNonDecreasingBy n xs → IsNonDecreasingBy n (x ∷ xs)
 NonDecreasing-cons n x xs least rest zero zero d order below = omega arith
 NonDecreasing-cons n x xs least rest zero (suc j) d order below = least j d (omega (arith, below))
 NonDecreasing-cons n x xs least rest (suc i) zero d order below = absurd (omega (arith, order))

@@ -4,6 +4,7 @@ ghost use Rattle.std.specs.List.Sorted.{IsNonDecreasingBy};
 ghost use Rattle.journal_format.specs.Touches.{AreWithin};
 ghost use Rattle.latest_writes.specs.Puts.{HasNoPut, IsNextPut, is_put, puts_of};
 ghost use Rattle.latest_writes.specs.inner.Puts.{EndsBehind, EndsBy};
+ghost use Rattle.latest_writes.specs.inner.Ranges.{RangeEndsBehind, RangeEndsBy};
 ghost use Rattle.latest_writes.specs.Ranges.{AreLastTouches, AreRanges, touch_at};
 
 use crate::overlay::overlay;
@@ -78,6 +79,18 @@ impl LastTouches {
         ensures { result ≡ count_by (λ block. is_put (touch_at block self.now.ranges)) (range_with_len 0 self.now.blocks) }
     {
         self.blocks_to_copy
+    }
+
+    /// The last touch of a block. The time it takes goes with the logarithm of the number of ranges.
+    pub fn touch_of(&self, block: u32) -> Option<LastTouch>
+        ensures { result ≡ touch_at block self.now.ranges }
+    {
+        let index = range_after(&self.ranges, block);
+        if index < self.ranges.len() {
+            self.ranges[index].touch_of(block)
+        } else {
+            None
+        }
     }
 
     /// The first block from `from` on whose last touch is a put, with the blocks after it that follow it in the image
@@ -173,6 +186,15 @@ fn first_after(puts: &[PutRange], block: u32) -> usize
     ensures behind { AllWithin (EndsBehind block) puts.now result (length puts.now) }
 {
     puts.partition_point(|put| put.ends_by(block))
+}
+
+// The index of the first range that ends after the block.
+fn range_after(ranges: &[LastRange], block: u32) -> usize
+    requires { IsNonDecreasingBy (λ range. range.first + range.blocks) ranges.now }
+    ensures before { AllWithin (RangeEndsBy block) ranges.now 0 result }
+    ensures behind { AllWithin (RangeEndsBehind block) ranges.now result (length ranges.now) }
+{
+    ranges.partition_point(|range| range.ends_by(block))
 }
 
 // The number of blocks of the puts.

@@ -2,7 +2,7 @@ ghost use Rattle.std.specs.Prelude.{◌≡◌, ◌+◌, ◌-◌, ◌*◌, ◌<�
 ghost use Rattle.std.specs.Option.{option_to_list};
 ghost use Rattle.latest_writes.specs.inner.Puts.{put_from};
 ghost use Rattle.latest_writes.specs.Ranges.{GoesOn, IsRange, touch_at};
-ghost use Rattle.latest_writes.specs.Touches.{HasBytesWithin, on_device, touch_on_device, touch_within};
+ghost use Rattle.latest_writes.specs.Touches.{HasBytesWithin, on_device, said_by, touch_on_device, touch_within};
 ghost use Rattle.journal_format.specs.Touches.{IsWithin, touch_in};
 
 use crate::touch::LastTouch;
@@ -53,6 +53,25 @@ impl LastRange {
             blocks: self.blocks - passed,
             touch: self.touch.within(passed),
         }
+    }
+
+    // Whether all its blocks are before this one.
+    pub(crate) fn ends_by(self, block: u32) -> bool
+        ensures { result ≡ nat_le (self.first + self.blocks) block }
+    {
+        self.first <= block && self.blocks <= block - self.first
+    }
+
+    // The touch of a block, if it is one of the range, which doesn't end before it.
+    pub(crate) fn touch_of(self, block: u32) -> Option<LastTouch>
+        requires range { IsRange self }
+        requires behind { block < self.first + self.blocks }
+        ensures { result ≡ said_by self.first self.blocks self.touch block }
+    {
+        if block < self.first {
+            return None;
+        }
+        Some(self.touch.within(block - self.first))
     }
 
     // Its blocks before this one.

@@ -21,6 +21,7 @@ mod serving;
 mod status_client;
 mod status_socket;
 mod teller;
+mod transfers;
 mod watched_file;
 
 use crate::device_watch::DeviceWatch;
@@ -30,6 +31,7 @@ use crate::server_log::Seconds;
 use crate::serving::serve_at;
 use crate::status_client::ask;
 use crate::teller::Teller;
+use crate::transfers::{export_from, import_to};
 use clap::error::ErrorKind;
 use command_line::{address_fault, last_given, line};
 use disk_model::{Disk, FileDisk};
@@ -247,6 +249,17 @@ where
             geometry,
             options,
         } => format(rt, teller, path, *geometry, *options),
+        Plan::Import {
+            source,
+            path,
+            sizes,
+            options,
+        } => import_to(rt, teller, source, path, *sizes, *options),
+        Plan::Export {
+            path,
+            target,
+            replaces,
+        } => export_from(rt, teller, path, target, *replaces),
         Plan::Serve {
             path,
             addresses,

@@ -10,7 +10,7 @@ use Rattle.checkpoint.specs.declared.fault.KeeperFault.TheVariants as fault
 use Rattle.device_image.specs.Keeper.{KeeperState}
 use Rattle.device_image.specs.Keeps.{Keeps}
 use Rattle.device_image.specs.Stands.{StandsFor}
-use Rattle.disk_model.specs.Disk.{State, IsAllSynced, IsSteady, LeavesOnly}
+use Rattle.disk_model.specs.Disk.{State, IsAllSynced, LeavesOnly}
 use Rattle.image_model.specs.Image.{Image}
 use Rattle.image_model.specs.declared.geometry.Geometry.{Geometry}
 use Rattle.image_model.specs.declared.layout.Layout.TheVariants.{Two}
@@ -33,8 +33,8 @@ IsOpeningTold (Ok keeper) outcome = IsPrinted outcome
 IsOpeningTold (Err refused) outcome = outcome ≡ Err (of_keeper refused.0)
 
 -- A device was formatted: this is what that came to, what it made of the device, and what was told of it. A device fault is one
--- that the device counted, want of memory leaves it as it was, and on an honest one of which no place is loose the rest is as
--- docs/ASSURANCE.md says of a format.
+-- that the device counted, want of memory leaves it as it was, and on an honest one the rest is as docs/ASSURANCE.md says of a
+-- format.
 pub record IsFormatCarriedOut {D : Type 0} (state : D → State) (faults extent : D → ℕ) (honest : D → Type 0) (disk left : D) (geometry : Geometry) (outcome : Result (Unit {0}) Refusal) : Type 0 where
   pub given : Result (Unit {0}) KeeperFault
   pub told : IsFormatTold given outcome
@@ -44,9 +44,9 @@ pub record IsFormatCarriedOut {D : Type 0} (state : D → State) (faults extent 
   pub counted : IfErr given (λ refusal. faults left ≡ faults_by refusal (faults disk))
   pub only : IfErr given (λ refusal. (refusal ≡ fault.NoMemory) ⊎ (refusal ≡ fault.DeviceFault))
   pub unchanged : IfErr given (λ refusal. (refusal ≡ fault.DeviceFault) ⊎ (left ≡ disk))
-  pub synced : honest disk → IsSteady (state disk) → OnOk given (IsAllSynced (state left))
-  pub formatted : honest disk → IsSteady (state disk) → OnOk given (IsFormatted (state left).seen geometry)
-  pub any_moment : honest disk → IsSteady (state disk) → LeavesOnly (state disk) (state left) (LeavesFormat (state disk) geometry)
+  pub synced : honest disk → OnOk given (IsAllSynced (state left))
+  pub formatted : honest disk → OnOk given (IsFormatted (state left).seen geometry)
+  pub any_moment : honest disk → LeavesOnly (state disk) (state left) (LeavesFormat (state disk) geometry)
 
 -- A device was opened, which recovered it: this is what that came to, what it made of the device, and what was told of it. All is
 -- as it is of the keeper's opening.

@@ -7,5 +7,5 @@ mod export;
 mod run;
 mod session;
 
-pub use run::{exit_status, perform};
+pub use run::{check_status, exit_status, perform};
 pub use session::pipe;

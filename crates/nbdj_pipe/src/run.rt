@@ -58,7 +58,9 @@ pub fn perform<D: Disk + Drop, R: Read, W: Write, E: Write>(
         Plan::Pipe { path: _, options } => pipe(alloc, disk, options, input, output),
         Plan::Recover { path: _, is_json } => recover(alloc, disk, is_json, output),
         Plan::Upgrade { path: _ } => upgrade(alloc, disk, output),
-        Plan::Serve { .. }
+        Plan::Import { .. }
+        | Plan::Export { .. }
+        | Plan::Serve { .. }
         | Plan::Status { .. }
         | Plan::Check { .. }
         | Plan::Rehearse { .. }
@@ -187,16 +189,21 @@ fn check<D: Disk, W: Write, E: Write>(
         Ok(report) => print_report(&report, output),
         Err(fault) => Err(Refusal::from(fault)),
     };
+    (check_status(outcome, errors), disk)
+}
+
+// The exit status of a check that found the device bad.
+const BAD_CONTENT: u8 = 3;
+
+/// The exit status of what only reads a device and ended so: 3 where the device is bad, else as that of any other plan.
+pub fn check_status<E: Write>(outcome: Result<(), Refusal>, errors: &mut E) -> u8 {
     let is_bad = match &outcome {
         Err(refusal) => is_of_content(*refusal),
         Ok(()) => false,
     };
     let status = exit_status(outcome, errors);
-    (if is_bad { BAD_CONTENT } else { status }, disk)
+    if is_bad { BAD_CONTENT } else { status }
 }
-
-// The exit status of a check that found the device bad.
-const BAD_CONTENT: u8 = 3;
 
 // Whether the refusal says that what the device holds is bad.
 fn is_of_content(refusal: Refusal) -> bool {

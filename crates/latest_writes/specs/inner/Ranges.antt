@@ -35,3 +35,10 @@ pub record IsPartOf (ranges : List LastRange) (from to : ℕ) (part : LastRange)
   pub before : part.first + part.blocks ≤ to
   pub same : (block : ℕ) → from ≤ block → block < part.first + part.blocks
       → touch_at block ranges ≡ said_by part.first part.blocks part.touch block
+
+-- a range ends before or at the block, or after it
+abbrev pub RangeEndsBy : ℕ → LastRange → Type 0
+RangeEndsBy block range = range.first + range.blocks ≤ block
+
+abbrev pub RangeEndsBehind : ℕ → LastRange → Type 0
+RangeEndsBehind block range = block < range.first + range.blocks

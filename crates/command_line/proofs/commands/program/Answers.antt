@@ -12,4 +12,6 @@ returns c =
     let five = joins c.add_subcommand-command-4.result c.add_subcommand-command-5.result _ _ four c.add_subcommand-command-5.ensures in
     let six = joins c.add_subcommand-command-5.result c.add_subcommand-command-6.result _ _ five c.add_subcommand-command-6.ensures in
     let seven = joins c.add_subcommand-command-6.result c.add_subcommand-command-7.result _ _ six c.add_subcommand-command-7.ensures in
-    IfOk-weaker c.add_subcommand.result _ _ (λ whole made. (_, _, made)) (joins c.add_subcommand-command-7.result c.add_subcommand.result _ _ seven c.add_subcommand.ensures)
+    let eight = joins c.add_subcommand-command-7.result c.add_subcommand-command-8.result _ _ seven c.add_subcommand-command-8.ensures in
+    let nine = joins c.add_subcommand-command-8.result c.add_subcommand-command-9.result _ _ eight c.add_subcommand-command-9.ensures in
+    IfOk-weaker c.add_subcommand.result _ _ (λ whole made. (_, _, made)) (joins c.add_subcommand-command-9.result c.add_subcommand.result _ _ nine c.add_subcommand.ensures)

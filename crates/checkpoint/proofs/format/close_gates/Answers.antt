@@ -3,7 +3,7 @@ use Rattle.std.proofs.lemmas.Result.{on_ok_weaker, IfOk-from_err}
 use Rattle.disk_model.specs.Disk.{IsSound, IsWritten, LeavesOnly, MayLeaveTorn, State}
 use Rattle.disk_model.specs.laws.Moments.{stays_on}
 use Rattle.checkpoint.proofs.DeviceWhileFormatted.{closed_after, gates_moments}
-use Rattle.checkpoint.proofs.format.close_headers.Goals as goal
+use Rattle.checkpoint.proofs.format.close_gates.Goals as goal
 
 -- That it is the gate of the other header is searched for.
 closing_there : {before after : State} {place other : ℕ} → LeavesOnly before after (MayLeaveTorn before place 1) → place ≡ other → LeavesOnly before after (MayLeaveTorn before other 1)
