@@ -1,7 +1,7 @@
 //! A client that waits for its server at most twenty seconds at a time.
 ghost use Rattle.std.specs.Prelude.{◌<◌, ◌^◌};
 
-use nbd_wire::{DISCONNECT, RequestHead, WRITE, encode_request};
+use nbd_wire::{DISCONNECT, READ, RequestHead, WRITE, encode_request};
 use std::io::{self, ErrorKind, Read, Write};
 use std::net::{Ipv4Addr, SocketAddr, TcpStream};
 use std::time::Duration;
@@ -50,6 +50,27 @@ impl Client {
             length: 4096,
         })?;
         self.stream.write_all(&[byte; 4096])
+    }
+
+    /// Reads one block, which has to be of one byte over and over.
+    pub fn expect_block(&mut self, block: u64, byte: u8) -> io::Result<()>
+        requires { block < 2 ^ 24 }
+    {
+        self.send(RequestHead {
+            flags: 0,
+            kind: READ,
+            cookie: block,
+            offset: 4096 * block,
+            length: 4096,
+        })?;
+        self.expect_done(block)?;
+        let mut data = [0; 4096];
+        self.stream.read_exact(&mut data)?;
+        if data == [byte; 4096] {
+            Ok(())
+        } else {
+            Err(io::Error::from(ErrorKind::InvalidData))
+        }
     }
 
     /// Ends the session.

@@ -1,4 +1,4 @@
-//! A test of the server over loopback sockets, with both ends in one process. It stands beside it, because a crate with tests is proved
+//! Tests of the server over loopback sockets, with both ends in one process. They stand beside it, because a crate with tests is proved
 //! twice.
 #![tactic(auto)]
 
@@ -6,3 +6,7 @@
 mod client;
 #[cfg(test)]
 mod loopback_tests;
+#[cfg(test)]
+mod snapshot;
+#[cfg(test)]
+mod trusted_tests;

@@ -24,21 +24,21 @@ use std::time::Duration;
 // For this many turns of a millisecond a group is held, and waited for.
 const TURNS: u64 = 10_000;
 
-// What the threads of a server have come to.
+/// What the threads of a server have come to.
 #[derive(Drop)]
-struct Seen {
-    // Whether a group has been held.
-    is_held: AtomicBool,
-    // Whether a reply was written while it was held.
-    is_overtaken: AtomicBool,
-    // How many times replies were written.
-    answers: AtomicU64,
+pub struct Seen {
+    /// Whether a group has been held.
+    pub is_held: AtomicBool,
+    /// Whether a reply was written while it was held.
+    pub is_overtaken: AtomicBool,
+    /// How many times replies were written.
+    pub answers: AtomicU64,
 }
 
-// Holds the first group that is to be stored until a reply was written.
-struct Gate<'a, R: Clock> {
-    rt: &'a R,
-    seen: &'a Seen,
+/// Holds the first group that is to be stored until a reply was written.
+pub struct Gate<'a, R: Clock> {
+    pub rt: &'a R,
+    pub seen: &'a Seen,
 }
 
 impl<'a, R: Clock> Clone for Gate<'a, R> {
@@ -128,12 +128,37 @@ fn write_beside_a_held_one(rt: &HostRuntime, port: u16, seen: &Seen) -> io::Resu
     other.disconnect()
 }
 
-// A device over holes that was opened.
-fn fresh(alloc: Global) -> Option<OpenDevice<SimDisk, ()>> {
+/// A device over holes.
+pub fn formatted(alloc: Global) -> Option<SimDisk> {
     let geometry = Geometry::new(64, 2_097_152)?;
     let mut disk = SimDisk::new(alloc, geometry.device_bytes()).ok()?;
     Keeper::format(alloc, &mut disk, geometry).ok()?;
-    OpenDevice::open(alloc, disk, None).ok()
+    Some(disk)
+}
+
+/// Two workers, until as many sessions have ended.
+pub fn options(sessions: u64) -> Option<ServeOptions> {
+    let limits = Limits {
+        sessions,
+        handshake_seconds: 5,
+        idle_seconds: 0,
+        keepalive_seconds: 0,
+        flush_millis: 0,
+        loss_bytes: 67_108_864,
+        loss_millis: 0,
+        device_millis: 0,
+        check_millis: 0,
+    };
+    ServeOptions::new(
+        512,
+        Mode::Writeback,
+        2,
+        1,
+        limits,
+        OnFault::Stay,
+        WhenFull::Wait,
+        false,
+    )
 }
 
 // What a run came to: what the clients met, and what the server and its device did.
@@ -153,28 +178,8 @@ fn run<R: Threads + Wait + Clock + Copy + Send + Sync + Drop + 'static>(
     let alloc = rt.alloc();
     let socket = TcpListener::bind(rt, SocketAddr::from((Ipv4Addr::LOCALHOST, 0))).ok()?;
     let port = socket.local_addr().ok()?.port();
-    let limits = Limits {
-        sessions: 2,
-        handshake_seconds: 5,
-        idle_seconds: 0,
-        keepalive_seconds: 0,
-        flush_millis: 0,
-        loss_bytes: 67_108_864,
-        loss_millis: 0,
-        device_millis: 0,
-        check_millis: 0,
-    };
-    let options = ServeOptions::new(
-        512,
-        Mode::Writeback,
-        2,
-        1,
-        limits,
-        OnFault::Stay,
-        WhenFull::Wait,
-        false,
-    )?;
-    let device = fresh(alloc)?;
+    let options = options(2)?;
+    let device = OpenDevice::<SimDisk, ()>::open(alloc, formatted(alloc)?, None).ok()?;
     let listeners = Vec::from_array(alloc, [Listener::from(socket)]).ok()?;
     // (the server's input doesn't end before it does)
     let (_ending, input) = UnixStream::pair(rt).ok()?;

@@ -1,0 +1,2 @@
+mod PremisesAreMet
+mod SnapshotIsRight
