@@ -111,7 +111,7 @@ def check_first_image(program):
     with tempfile.TemporaryDirectory() as folder:
         place = placed(folder, program)
         ran = subprocess.run(["timeout", "50", "sh", "-euc", "".join(blocks)], cwd=folder, env=place, capture_output=True, text=True, timeout=60)
-        said = "formatted 134643712\nlistening nbdj.sock\n"
+        said = "imported 409600\nlistening nbdj.sock\n"
         check("README.md: a first served image", (0, said), (ran.returncode, ran.stdout + ran.stderr))
 
 
