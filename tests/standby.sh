@@ -52,7 +52,7 @@ is 'two takes its address' yes "$(seen two.log "nbdj-standby: takes $second")"
 is 'the address of two' "$second" "$(has two)"
 
 # If only nbdj is killed, the address is given back, and taken again with the next nbdj.
-kill -9 "$(pgrep -f "serve --until-eof d.img")"
+kill -9 "$(pgrep -f "serve --until-eof .*d.img")"
 is 'two gives its address back' yes "$(seen two.log "nbdj-standby: gives $second back")"
 is 'two serves again' yes "$(seen two.log "nbdj-standby: takes $second" 2)"
 
@@ -90,7 +90,7 @@ one=$!
 is 'one serves before a stop' yes "$(seen stopped.log "nbdj-standby: takes $first")"
 touch slowly
 kill -TERM $one
-kill -9 "$(pgrep -f "serve --until-eof d.img")"
+kill -9 "$(pgrep -f "serve --until-eof .*d.img")"
 wait $one
 is 'its status and address after the stop' '137|' "$?|$(has one)"
 is 'no signal is sent to a process that is gone' 0 "$(grep -c 'kill:' stopped.log)"
